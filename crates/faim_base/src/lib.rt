@@ -1,0 +1,27 @@
+//! Shared types of the payment service: identifiers, numbers, dates, and lists that contracts see as lists.
+#![tactic(auto)]
+
+mod calendar;
+mod faults;
+mod ids;
+mod judgement;
+mod laws;
+mod lists;
+mod names;
+mod numbers;
+mod numerals;
+#[cfg(test)]
+mod tests;
+
+pub use calendar::{civil, stamp};
+pub use faults::{Failed, NoMemory};
+pub use ids::{IdFault, Imad, Omad, OutPos, Stamp};
+pub use judgement::{Head, Refused, Reject, TagNo, Verdict};
+pub use laws::{
+    date_reads_back, date_writes_back, imad_reads_back, imad_writes_back, omad_reads_back,
+    omad_writes_back, position_reads_back, position_writes_back,
+};
+pub use lists::{Bytes, Endpoints, Items, Moments, Places};
+pub use names::{Aba, Endpoint, aba_check};
+pub use numbers::{Cents, CycleDate, Moment, Seq};
+pub use numerals::{digits, padded};

@@ -1,0 +1,163 @@
+// Numbers with their ranges.
+ghost use Rattle.std.specs.Prelude.{◌≡◌, ◌≤◌, ◌&&◌, nat_le, Some, None, if◌then◌else◌, length};
+ghost use Rattle.faim_base.specs.Digits.{read_seq};
+
+use crate::digits;
+use std::marker::Model;
+
+/// The number of a message under its cycle date, 1 to 999,999.
+#[derive(Clone, Copy, Debug, PartialEq, Eq, PartialOrd, Ord)]
+pub struct Seq(u32);
+
+impl Model for Seq {
+    ghost use Rattle.std.specs.Prelude.{ℕ, ◌≤◌};
+
+    ghost Value = { ℕ };
+
+    ghost view = { λ n. n.0 };
+
+    ghost invariant = { λ n. (1 ≤ n.0) × (n.0 ≤ 999_999) };
+
+    ghost inverse = { λ n. record { 0 = n } };
+}
+
+impl Seq {
+    /// None exactly where n is 0 or over 999,999.
+    pub fn new(n: u32) -> Option<Seq>
+        ensures { result ≡ (if nat_le 1 n && nat_le n 999_999 then Some n else None) }
+    {
+        if 1 <= n && n <= 999_999 {
+            Some(Seq(n))
+        } else {
+            None
+        }
+    }
+
+    /// The number.
+    pub fn get(self) -> u32
+        ensures value { result ≡ self }
+        ensures from_one { 1 ≤ result }
+        ensures range { result ≤ 999_999 }
+    {
+        self.0
+    }
+}
+
+/// An amount in cents, 0 to 999,999,999,999.
+#[derive(Clone, Copy, Debug, PartialEq, Eq, PartialOrd, Ord)]
+pub struct Cents(u64);
+
+impl Model for Cents {
+    ghost use Rattle.std.specs.Prelude.{ℕ, ◌≤◌};
+
+    ghost Value = { ℕ };
+
+    ghost view = { λ n. n.0 };
+
+    ghost invariant = { λ n. n.0 ≤ 999_999_999_999 };
+
+    ghost inverse = { λ n. record { 0 = n } };
+}
+
+impl Cents {
+    /// None exactly where n is over 999,999,999,999.
+    pub fn new(n: u64) -> Option<Cents>
+        ensures { result ≡ (if nat_le n 999_999_999_999 then Some n else None) }
+    {
+        if n <= 999_999_999_999 {
+            Some(Cents(n))
+        } else {
+            None
+        }
+    }
+
+    /// The number of cents.
+    pub fn get(self) -> u64
+        ensures value { result ≡ self }
+        ensures range { result ≤ 999_999_999_999 }
+    {
+        self.0
+    }
+}
+
+/// A cycle date: the days since 2000-01-01, 0 to 2,921,939, which is 9999-12-31.
+#[derive(Clone, Copy, Debug, PartialEq, Eq, PartialOrd, Ord)]
+pub struct CycleDate(u32);
+
+impl Model for CycleDate {
+    ghost use Rattle.std.specs.Prelude.{ℕ, ◌≤◌};
+
+    ghost Value = { ℕ };
+
+    ghost view = { λ n. n.0 };
+
+    ghost invariant = { λ n. n.0 ≤ 2_921_939 };
+
+    ghost inverse = { λ n. record { 0 = n } };
+}
+
+impl CycleDate {
+    /// None exactly where n is over 2,921,939.
+    pub fn new(n: u32) -> Option<CycleDate>
+        ensures { result ≡ (if nat_le n 2_921_939 then Some n else None) }
+    {
+        if n <= 2_921_939 {
+            Some(CycleDate(n))
+        } else {
+            None
+        }
+    }
+
+    /// The number of days.
+    pub fn get(self) -> u32
+        ensures value { result ≡ self }
+        ensures range { result ≤ 2_921_939 }
+    {
+        self.0
+    }
+}
+
+/// A moment: the minutes since 2000-01-01 00:00, 0 to 4,207,593,599.
+#[derive(Clone, Copy, Debug, PartialEq, Eq, PartialOrd, Ord)]
+pub struct Moment(u32);
+
+impl Model for Moment {
+    ghost use Rattle.std.specs.Prelude.{ℕ, ◌≤◌};
+
+    ghost Value = { ℕ };
+
+    ghost view = { λ n. n.0 };
+
+    ghost invariant = { λ n. n.0 ≤ 4_207_593_599 };
+
+    ghost inverse = { λ n. record { 0 = n } };
+}
+
+impl Moment {
+    /// None exactly where n is over 4,207,593,599.
+    pub fn new(n: u32) -> Option<Moment>
+        ensures { result ≡ (if nat_le n 4_207_593_599 then Some n else None) }
+    {
+        if n <= 4_207_593_599 {
+            Some(Moment(n))
+        } else {
+            None
+        }
+    }
+
+    /// The number of minutes.
+    pub fn get(self) -> u32
+        ensures value { result ≡ self }
+        ensures range { result ≤ 4_207_593_599 }
+    {
+        self.0
+    }
+}
+
+// The number that six digits spell, where it isn't 0.
+pub(crate) fn seq_in(text: &[u8]) -> Option<Seq>
+    requires { length text.now ≡ 6 }
+    ensures { result ≡ read_seq text.now }
+{
+    Seq::new(digits(text)? as u32)
+}

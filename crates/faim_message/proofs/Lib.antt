@@ -1,0 +1,5 @@
+pub mod Pieces
+pub mod Readings
+pub mod Marks
+pub mod Bodies
+pub mod PlainCode

@@ -1,0 +1,12 @@
+pub mod Imads
+pub mod Cases
+pub mod Judgements
+pub mod Once
+pub mod InOrder
+pub mod Balances
+pub mod Follow
+pub mod Places
+pub mod Again
+pub mod Turned
+pub mod Examples
+pub mod Strange

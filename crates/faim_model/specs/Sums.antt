@@ -1,0 +1,45 @@
+-- The cycle and the balances that a list of entries, the newest first, makes of a configuration.
+use Rattle.std.specs.Prelude.{ℕ, ◌+◌, ◌==◌, Bool, true, false, ◌&&◌, ◌||◌, List, [], ◌∷◌, bytes_eq, if◌then◌else◌, ℤ, pos, ◌+ℤ◌, ◌-ℤ◌}
+use Rattle.faim_base.specs.declared.judgement.Head.{Head}
+use Rattle.faim_base.specs.declared.judgement.Verdict.{Verdict}
+use Rattle.faim_base.specs.declared.judgement.Verdict.TheVariants.{Taken, Refused}
+use Rattle.host_ledger.specs.declared.config.Config.{Config}
+use Rattle.host_ledger.specs.declared.entries.Entry.{Entry}
+use Rattle.host_ledger.specs.declared.entries.Entry.TheVariants.{Posted, Roll}
+use Rattle.faim_model.specs.Accounts.{opening_of}
+
+-- a message of these subtypes moves money from its sender to its receiver
+abbrev pub moves_money : Head → Bool
+moves_money h = (h.sub == 0) || ((h.sub == 2) || ((h.sub == 8) || (h.sub == 32)))
+
+abbrev pub is_taken : Verdict → Bool
+is_taken (Taken dest seq) = true
+is_taken (Refused why) = false
+
+-- the cents that an entry gives an account, and those that it takes from it
+abbrev pub gives : Entry → List ℕ → ℕ
+gives (Posted h body resent moment v) aba = if is_taken v && (moves_money h && bytes_eq h.receiver aba) then h.amount else 0
+gives (Roll moment date) aba = 0
+
+abbrev pub takes : Entry → List ℕ → ℕ
+takes (Posted h body resent moment v) aba = if is_taken v && (moves_money h && bytes_eq h.sender aba) then h.amount else 0
+takes (Roll moment date) aba = 0
+
+-- all that the entries gave an account, and all that they took from it
+abbrev pub received : List Entry → List ℕ → ℕ
+received [] aba = 0
+received (x ∷ older) aba = received older aba + gives x aba
+
+abbrev pub paid : List Entry → List ℕ → ℕ
+paid [] aba = 0
+paid (x ∷ older) aba = paid older aba + takes x aba
+
+-- the opening balance, plus what accepted messages moved in, minus what they moved out
+abbrev pub balance : Config → List Entry → List ℕ → ℤ
+balance c es aba = (opening_of c aba +ℤ pos (received es aba)) -ℤ pos (paid es aba)
+
+-- the date of the last Roll, or the opening date
+abbrev pub cycle : Config → List Entry → ℕ
+cycle c [] = c.date
+cycle c (Roll moment date ∷ older) = date
+cycle c (Posted h body resent moment v ∷ older) = cycle c older

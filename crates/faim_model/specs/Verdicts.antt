@@ -1,0 +1,107 @@
+-- The verdict on the text of a message that comes from a line at a moment.
+use Rattle.std.specs.Prelude.{ℕ, ◌+◌, ◌*◌, ◌==◌, nat_le, Bool, false, not, ◌&&◌, List, [], ◌∷◌, length, codes, bytes_eq, if◌then◌else◌, Option, Some, None, is_none, pos, ◌-ℤ◌, int_lt, Result, Ok, Err}
+use Rattle.faim_base.specs.declared.ids.Imad.{Imad}
+use Rattle.faim_base.specs.declared.ids.IdFault.{IdFault}
+use Rattle.faim_base.specs.declared.judgement.Head.{Head}
+use Rattle.faim_base.specs.declared.judgement.Reject.{Reject}
+use Rattle.faim_base.specs.declared.judgement.Verdict.{Verdict}
+use Rattle.faim_base.specs.declared.judgement.Verdict.TheVariants.{Taken, Refused}
+use Rattle.faim_base.specs.Refusals.{e001, e002, e161, e162, f401, h101, h102, i501, w301, w302, x201}
+use Rattle.faim_message.specs.declared.judged.Plain.{Plain}
+use Rattle.faim_message.specs.Plain.{body_of, plain_of}
+use Rattle.host_ledger.specs.declared.config.Config.{Config}
+use Rattle.host_ledger.specs.declared.entries.Entry.{Entry}
+use Rattle.host_ledger.specs.declared.entries.Entry.TheVariants.{Posted, Roll}
+use Rattle.faim_model.specs.declared.decisions.Decision.{Decision}
+use Rattle.faim_model.specs.declared.decisions.Decision.TheVariants.{New, Known, Differs, WrongSource}
+use Rattle.faim_model.specs.Accounts.{account_of, endpoint_of, floor_of, is_served_at}
+use Rattle.faim_model.specs.Sums.{moves_money, balance, cycle}
+use Rattle.faim_model.specs.Outputs.{sent_in_cycle}
+
+abbrev pub same_imad : Imad → Imad → Bool
+same_imad a b = (a.date == b.date) && (bytes_eq a.source b.source && (a.seq == b.seq))
+
+-- the entry posts a message with this IMAD; with this IMAD and this body
+abbrev pub has_imad : Imad → Entry → Bool
+has_imad imad (Posted h body resent moment v) = same_imad h.imad imad
+has_imad imad (Roll moment date) = false
+
+abbrev pub has_body : Imad → List ℕ → Entry → Bool
+has_body imad text (Posted h body resent moment v) = same_imad h.imad imad && bytes_eq body text
+has_body imad text (Roll moment date) = false
+
+-- the place of an entry that passes a test, the oldest entry being at 0
+abbrev pub place_of : (Entry → Bool) → List Entry → Option ℕ
+place_of p [] = None
+place_of p (x ∷ older) = if p x then Some (length older) else place_of p older
+
+-- customers' transfers have a cutoff of their own
+abbrev pub is_customer : Head → Bool
+is_customer h = bytes_eq h.code (codes "CTR")
+
+-- at or behind a cutoff of the present cycle date, in minutes of that day
+abbrev pub is_past : Config → List Entry → ℕ → ℕ → Bool
+is_past c es cutoff t = nat_le (1440 * cycle c es + cutoff) t
+
+-- the sender's balance would go below its floor
+abbrev pub is_below_floor : Config → List Entry → Head → Bool
+is_below_floor c es h = moves_money h && int_lt (balance c es h.sender -ℤ pos h.amount) (floor_of c h.sender)
+
+abbrev pub refused : Reject → Decision
+refused why = New (Refused why)
+
+abbrev pub known_or : Option ℕ → Decision → Decision
+known_or None rest = rest
+known_or (Some place) rest = Known place
+
+abbrev pub differs_or : Option ℕ → Decision → Decision
+differs_or None rest = rest
+differs_or (Some place) rest = Differs place
+
+abbrev pub edit_or : Option Reject → Decision → Decision
+edit_or None rest = rest
+edit_or (Some why) rest = refused why
+
+-- a message that is new: the first of these that holds, or it is taken and gets the next number of the receiver's endpoint
+abbrev pub judged_new : Config → List Entry → List ℕ → ℕ → Head → Option Reject → Decision
+judged_new c es line t h edit =
+    if not (h.imad.date == cycle c es) then refused h101
+    else edit_or edit (
+    if not (is_served_at c h.sender line) then refused e161
+    else if is_none (account_of c h.receiver) then refused e162
+    else if is_customer h && is_past c es c.customer t then refused w301
+    else if not (is_customer h) && is_past c es c.bank t then refused w302
+    else if is_below_floor c es h then refused f401
+    else if nat_le 999_998 (sent_in_cycle c es (endpoint_of c h.receiver)) then refused i501
+    else New (Taken (endpoint_of c h.receiver) (sent_in_cycle c es (endpoint_of c h.receiver) + 1)))
+
+-- the decision on a message with this head and body, of whose edits this one failed first
+abbrev pub judged : Config → List Entry → List ℕ → ℕ → Head → List ℕ → Option Reject → Decision
+judged c es line t h body edit =
+    if not (bytes_eq h.imad.source line) then WrongSource
+    else known_or (place_of (has_body h.imad body) es)
+    (differs_or (place_of (has_imad h.imad) es) (judged_new c es line t h edit))
+
+-- a verdict that is recorded now, one that stands at a place, or a refusal that isn't recorded
+pub data Answer : Type 0 where
+  Now : Verdict → Answer
+  Before : ℕ → Answer
+  Turned : Reject → Answer
+
+abbrev pub answer_of : Decision → Answer
+answer_of (New v) = Now v
+answer_of (Known place) = Before place
+answer_of (Differs place) = Turned x201
+answer_of WrongSource = Turned h102
+
+abbrev pub verdict_of_head : Config → List Entry → List ℕ → ℕ → List ℕ → Result Head IdFault → Answer
+verdict_of_head c es line t body (Err fault) = Turned e002
+verdict_of_head c es line t body (Ok h) = answer_of (judged c es line t h body None)
+
+abbrev pub verdict_of_plain : Config → List Entry → List ℕ → ℕ → List ℕ → Option Plain → Answer
+verdict_of_plain c es line t body None = Turned e001
+verdict_of_plain c es line t body (Some p) = verdict_of_head c es line t body p.head
+
+-- the verdict on a text from a line at an effective moment
+abbrev pub verdict : Config → List Entry → List ℕ → ℕ → List ℕ → Answer
+verdict c es line t text = verdict_of_plain c es line t (body_of text) (plain_of c.env text)

@@ -1,0 +1,11 @@
+pub mod Words
+pub mod Lines
+pub mod Fields
+pub mod Grammar
+pub mod Report
+pub mod Replay
+pub mod Reading
+pub mod Posting
+pub mod Ends
+pub mod Promises
+pub mod ExitCodes

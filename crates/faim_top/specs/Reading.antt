@@ -1,0 +1,29 @@
+-- What a reader returned against what the definition gives, unless memory ran out.
+use Rattle.std.specs.Prelude.{◌≡◌, ℕ, Result, Ok, Err}
+use Rattle.faim_top.specs.declared.script.Why.{Why}
+use Rattle.faim_top.specs.declared.script.ScriptFault.{ScriptFault}
+use Rattle.faim_top.specs.declared.script.ScriptRefused.{ScriptRefused}
+use Rattle.faim_top.specs.declared.script.ScriptRefused.TheVariants as text
+use Rattle.faim_top.specs.declared.script.LineRefused.{LineRefused}
+use Rattle.faim_top.specs.declared.script.LineRefused.TheVariants as line
+
+-- the refusal of a line at its number
+abbrev pub refused_at : ℕ → LineRefused → ScriptRefused
+refused_at n (line.Reason why) = text.Fault (record { line = n; why = why })
+refused_at n line.NoMemory = text.NoMemory
+
+abbrev pub LineFails : {A : Type 0} → LineRefused → Result A Why → Type 0
+LineFails (line.Reason why) read = read ≡ Err why
+LineFails line.NoMemory read = Unit {0}
+
+abbrev pub ReadsLine : {A : Type 0} → Result A LineRefused → Result A Why → Type 0
+ReadsLine (Ok x) read = read ≡ Ok x
+ReadsLine (Err refused) read = LineFails refused read
+
+abbrev pub TextFails : {A : Type 0} → ScriptRefused → Result A ScriptFault → Type 0
+TextFails (text.Fault fault) read = read ≡ Err fault
+TextFails text.NoMemory read = Unit {0}
+
+abbrev pub ReadsText : {A : Type 0} → Result A ScriptRefused → Result A ScriptFault → Type 0
+ReadsText (Ok x) read = read ≡ Ok x
+ReadsText (Err refused) read = TextFails refused read

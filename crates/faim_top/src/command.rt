@@ -1,0 +1,23 @@
+// The words of the command line.
+ghost use Rattle.std.specs.Prelude.{◌≡◌};
+
+/// What the program is asked for.
+#[derive(Clone, Copy, Debug, PartialEq, Eq)]
+pub enum Command {
+    Replay,
+}
+
+impl Command {
+    ghost use Rattle.std.specs.Prelude.{◌≡◌};
+    ghost use Rattle.faim_top.specs.Words.{command_of, texts};
+
+    /// The command that the words are; none where they are no command.
+    pub fn read(words: &[String]) -> Option<Command>
+        ensures { result ≡ command_of (texts words.now) }
+    {
+        match words {
+            [word] if word.as_str() == "replay" => Some(Command::Replay),
+            _ => None,
+        }
+    }
+}

@@ -1,0 +1,119 @@
+// The values of words (docs/FORMATS.md, "Scripts").
+ghost use Rattle.std.specs.Prelude.{◌≡◌, ◌≤◌, ◌≤ℤ◌, pos, neg_ℤ, length, IfSome};
+ghost use Rattle.std.specs.List.{list_all};
+ghost use Rattle.faim_base.specs.Text.{is_digit};
+ghost use Rattle.faim_top.specs.Fields.{env_word, date_word, cutoff_word, endpoint_word, aba_word, is_plain_number, magnitude_word, cents_word, seq_word};
+
+use faim_base::{Aba, CycleDate, Endpoint, Seq, aba_check, digits};
+
+// `T` for test, `P` for production.
+pub(crate) fn env_in(word: &[u8]) -> Option<u8>
+    ensures { result ≡ env_word word.now }
+{
+    match word {
+        b"T" => Some(b'T'),
+        b"P" => Some(b'P'),
+        _ => None,
+    }
+}
+
+pub(crate) fn date_in(word: &[u8]) -> Option<CycleDate>
+    ensures { result ≡ date_word word.now }
+{
+    if word.len() != 8 {
+        return None;
+    }
+    let mut text = [0; 8];
+    text.copy_from_slice(word);
+    CycleDate::read(&text)
+}
+
+// A cutoff in minutes of the day: the day's end.
+pub(crate) fn cutoff_in(word: &[u8]) -> Option<u16>
+    ensures { result ≡ cutoff_word word.now }
+{
+    match word {
+        b"2400" => Some(1_440),
+        _ => None,
+    }
+}
+
+pub(crate) fn endpoint_in(word: &[u8]) -> Option<Endpoint>
+    ensures { result ≡ endpoint_word word.now }
+{
+    if word.len() != 8 {
+        return None;
+    }
+    let mut text = [0; 8];
+    text.copy_from_slice(word);
+    Endpoint::read(&text)
+}
+
+// A bank's number whose check digit holds.
+pub(crate) fn aba_in(word: &[u8]) -> Option<Aba>
+    ensures { result ≡ aba_word word.now }
+{
+    if word.len() != 9 {
+        return None;
+    }
+    let mut text = [0; 9];
+    text.copy_from_slice(word);
+    let aba = Aba::read(&text)?;
+    if aba_check(&aba) { Some(aba) } else { None }
+}
+
+pub(crate) fn seq_in(word: &[u8]) -> Option<Seq>
+    ensures { result ≡ seq_word word.now }
+{
+    if word.len() != 6 {
+        return None;
+    }
+    Seq::new(digits(word)? as u32)
+}
+
+// An amount in cents.
+pub(crate) fn cents_in(word: &[u8]) -> Option<i64>
+    ensures { result ≡ cents_word word.now }
+{
+    match word {
+        [b'-', rest @ ..] => match magnitude_in(rest)? {
+            0 => None,
+            n => Some(-(n as i64)),
+        },
+        _ => Some(magnitude_in(word)? as i64),
+    }
+}
+
+// A number of at most twelve digits.
+fn magnitude_in(word: &[u8]) -> Option<u64>
+    ensures value { result ≡ magnitude_word word.now }
+    ensures small { IfSome result (λ n. n ≤ 999_999_999_999) }
+{
+    if is_plain_number(word) {
+        digits(word)
+    } else {
+        None
+    }
+}
+
+fn is_plain_number(word: &[u8]) -> bool
+    ensures { result ≡ is_plain_number word.now }
+{
+    match word {
+        [] => false,
+        [digit] => is_digit(*digit),
+        [first, _, rest @ ..] => *first != b'0' && are_digits(word) && rest.len() <= 10,
+    }
+}
+
+fn are_digits(word: &[u8]) -> bool
+    ensures { result ≡ list_all is_digit word.now }
+{
+    word.iter().all(|b| is_digit(*b))
+}
+
+fn is_digit(b: u8) -> bool
+    ensures { result ≡ is_digit b }
+{
+    b.is_ascii_digit()
+}

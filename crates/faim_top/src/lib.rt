@@ -1,0 +1,28 @@
+//! The program's top call: from its words and its input to what it writes.
+#![tactic(auto)]
+
+mod accounts;
+mod command;
+mod fields;
+mod laws;
+mod lines;
+mod outcome;
+mod play;
+mod printing;
+mod reader;
+mod script;
+mod status;
+mod streams;
+#[cfg(test)]
+mod tests;
+mod top;
+mod turns;
+
+pub use command::Command;
+pub use laws::promises_kept;
+pub use outcome::{Balances, Closing, Counts, Outcome};
+pub use printing::{print_closing, print_outcome};
+pub use reader::read_script;
+pub use script::{Act, Event, Events, Script, ScriptFault, ScriptRefused, Why};
+pub use status::{Reason, Status};
+pub use top::run;

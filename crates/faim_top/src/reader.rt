@@ -1,0 +1,257 @@
+// Reads scripts, line by line (docs/FORMATS.md, "Scripts").
+ghost use Rattle.std.specs.Prelude.{◌≡◌, ◌+◌, [], ◌≤◌, length, map, bytes_eq, Ok, Err, if◌then◌else◌};
+ghost use Rattle.faim_top.specs.declared.script.Why.TheVariants.{Shape};
+ghost use Rattle.faim_top.specs.Lines.{lines_of, words_of};
+ghost use Rattle.faim_top.specs.Grammar.{host_values, host_line, account_values, account_words, account_line, submit_values, retrieve_values, submit_words, retrieve_words, event_named, event_line, script_from, accounts_from, script_of, size_limit, is_begin};
+ghost use Rattle.faim_top.specs.Reading.{ReadsLine, ReadsText};
+ghost use Rattle.faim_model.specs.Accounts.{endpoints_of};
+
+use crate::accounts::{add_endpoint, stands_beside};
+use crate::fields::{aba_in, cents_in, cutoff_in, date_in, endpoint_in, env_in, seq_in};
+use crate::lines::{split_line, split_word, words};
+use crate::script::LineRefused;
+use crate::{Act, Event, Events, Script, ScriptFault, ScriptRefused, Why};
+use faim_base::{Bytes, Endpoint, Endpoints, OutPos};
+use host_ledger::{Account, Accounts, Config};
+use std::alloc::Global;
+
+/// What a script may have at most, in bytes.
+pub(crate) const SIZE_LIMIT: usize = 67_108_864;
+
+// What a submitted text may have at most, in bytes.
+const TEXT_LIMIT: usize = 8_192;
+
+/// The script that a text is. `Fault` exactly where the text is none, with the first line that isn't one of a script and
+/// the first reason that it has.
+pub fn read_script(alloc: Global, text: &[u8]) -> Result<Script, ScriptRefused>
+    ensures { ReadsText result (script_of text.now) }
+{
+    if text.len() > SIZE_LIMIT {
+        return Err(LineRefused::Reason(Why::Size).at(0));
+    }
+    if text.is_empty() {
+        return Err(LineRefused::Reason(Why::Ended).at(1));
+    }
+    let (line, rest) = split_line(text);
+    match host_line(alloc, line) {
+        Ok(config) => read_accounts(alloc, config, rest),
+        Err(refused) => Err(refused.at(1)),
+    }
+}
+
+// The accounts up to `begin`, and the events behind it.
+fn read_accounts(alloc: Global, config: Config, text: &[u8]) -> Result<Script, ScriptRefused>
+    requires { length text.now ≤ size_limit }
+    ensures { ReadsText result (accounts_from config [] 2 (lines_of text.now)) }
+{
+    let mut accounts = Accounts::new(alloc);
+    let mut endpoints = Endpoints::new(alloc);
+    let mut number = 2;
+    let mut rest = text;
+    while !rest.is_empty() {
+        let (line, behind) = split_line(rest);
+        if is_begin(accounts.as_slice(), line) {
+            return read_events(alloc, Config { accounts, ..config }, number + 1, behind);
+        }
+        match account_line(alloc, accounts.as_slice(), endpoints.as_slice(), line) {
+            Ok(account) => {
+                add_endpoint(&mut endpoints, accounts.as_slice(), &account)?;
+                accounts.push(account)?;
+            }
+            Err(refused) => return Err(refused.at(number)),
+        }
+        number += 1;
+        rest = behind;
+    }
+    Err(LineRefused::Reason(Why::Ended).at(number))
+}
+
+// The events on lines from this number on.
+fn read_events(
+    alloc: Global,
+    config: Config,
+    first: u64,
+    text: &[u8],
+) -> Result<Script, ScriptRefused>
+    requires { first + length text.now ≤ size_limit + 3 }
+    ensures { ReadsText result (script_from config first (lines_of text.now)) }
+{
+    let mut events = Events::new(alloc);
+    let mut number = first;
+    let mut rest = text;
+    while !rest.is_empty() {
+        let (line, behind) = split_line(rest);
+        match event_line(alloc, line) {
+            Ok(event) => events.push(event)?,
+            Err(refused) => return Err(refused.at(number)),
+        }
+        number += 1;
+        rest = behind;
+    }
+    Ok(Script { config, events })
+}
+
+fn is_begin(accounts: &[Account], line: &[u8]) -> bool
+    ensures { result ≡ is_begin accounts.now line.now }
+{
+    !accounts.is_empty() && line == b"begin".as_slice()
+}
+
+// A `host` line.
+#[tactic(auto, using(crate::proofs::WordCuts::host_count))]
+fn host_line(alloc: Global, line: &[u8]) -> Result<Config, LineRefused>
+    ensures { ReadsLine result (host_line line.now) }
+{
+    let words = words(alloc, line, 5)?;
+    match words.as_slice() {
+        [name, env, date, customer, bank] => {
+            named(name, b"host")?;
+            Ok(host_values(alloc, env, date, customer, bank)?)
+        }
+        _ => Err(LineRefused::Reason(Why::Shape)),
+    }
+}
+
+fn host_values(
+    alloc: Global,
+    env: &[u8],
+    date: &[u8],
+    customer: &[u8],
+    bank: &[u8],
+) -> Result<Config, Why>
+    ensures { result ≡ host_values env.now date.now customer.now bank.now }
+{
+    let env = env_in(env).ok_or(Why::Value)?;
+    let date = date_in(date).ok_or(Why::Value)?;
+    let customer = cutoff_in(customer).ok_or(Why::Value)?;
+    let bank = cutoff_in(bank).ok_or(Why::Value)?;
+    Ok(Config {
+        env,
+        date,
+        customer,
+        bank,
+        accounts: Accounts::new(alloc),
+    })
+}
+
+// An `account` line behind these accounts.
+fn account_line(
+    alloc: Global,
+    before: &[Account],
+    endpoints: &[Endpoint],
+    line: &[u8],
+) -> Result<Account, LineRefused>
+    requires { endpoints.now ≡ endpoints_of before.now }
+    ensures { ReadsLine result (account_line before.now line.now) }
+{
+    let account = account_alone(alloc, line)?;
+    stands_beside(before, endpoints, &account)?;
+    Ok(account)
+}
+
+fn account_alone(alloc: Global, line: &[u8]) -> Result<Account, LineRefused>
+    ensures { ReadsLine result (account_words (words_of 5 line.now)) }
+{
+    let words = words(alloc, line, 5)?;
+    Ok(account_in(words.as_slice())?)
+}
+
+#[tactic(auto, using(crate::proofs::WordCuts::account_count, crate::proofs::WordCuts::account_five))]
+fn account_in(words: &[&[u8]]) -> Result<Account, Why>
+    ensures { result ≡ account_words (map (λ w. w.now) words.now) }
+{
+    if words.len() != 5 {
+        return Err(Why::Shape);
+    }
+    named(words[0], b"account")?;
+    account_values(words[1], words[2], words[3], words[4])
+}
+
+fn account_values(aba: &[u8], endpoint: &[u8], opening: &[u8], floor: &[u8]) -> Result<Account, Why>
+    ensures { result ≡ account_values aba.now endpoint.now opening.now floor.now }
+{
+    Ok(Account {
+        aba: aba_in(aba).ok_or(Why::Value)?,
+        endpoint: endpoint_in(endpoint).ok_or(Why::Value)?,
+        opening: cents_in(opening).ok_or(Why::Value)?,
+        floor: cents_in(floor).ok_or(Why::Value)?,
+    })
+}
+
+// The first word of a line that must be this one.
+fn named(name: &[u8], wanted: &[u8]) -> Result<(), Why>
+    ensures { result ≡ (if bytes_eq name.now wanted.now then Ok tt else Err Shape) }
+{
+    if name == wanted {
+        Ok(())
+    } else {
+        Err(Why::Shape)
+    }
+}
+
+// The line of an event.
+fn event_line(alloc: Global, line: &[u8]) -> Result<Event, LineRefused>
+    ensures { ReadsLine result (event_line line.now) }
+{
+    event_named(alloc, split_word(line).0, line)
+}
+
+fn event_named(alloc: Global, name: &[u8], line: &[u8]) -> Result<Event, LineRefused>
+    ensures { ReadsLine result (event_named name.now line.now) }
+{
+    if name == b"submit".as_slice() {
+        return submit_line(alloc, line);
+    }
+    if name == b"retrieve".as_slice() {
+        return retrieve_line(alloc, line);
+    }
+    Err(LineRefused::Reason(Why::Shape))
+}
+
+fn submit_line(alloc: Global, line: &[u8]) -> Result<Event, LineRefused>
+    ensures { ReadsLine result (submit_words (words_of 2 line.now)) }
+{
+    let words = words(alloc, line, 2)?;
+    match words.as_slice() {
+        [_, endpoint, text] => submit_values(alloc, endpoint, text),
+        _ => Err(LineRefused::Reason(Why::Shape)),
+    }
+}
+
+fn submit_values(alloc: Global, endpoint: &[u8], text: &[u8]) -> Result<Event, LineRefused>
+    ensures { ReadsLine result (submit_values endpoint.now text.now) }
+{
+    let line = endpoint_in(endpoint).ok_or(Why::Value)?;
+    if text.len() > TEXT_LIMIT {
+        return Err(LineRefused::Reason(Why::Value));
+    }
+    let mut copy = Bytes::new(alloc);
+    copy.extend(text)?;
+    Ok(Event {
+        act: Act::Submit { line, text: copy },
+    })
+}
+
+fn retrieve_line(alloc: Global, line: &[u8]) -> Result<Event, LineRefused>
+    ensures { ReadsLine result (retrieve_words (words_of 4 line.now)) }
+{
+    let words = words(alloc, line, 4)?;
+    match words.as_slice() {
+        [_, endpoint, date, seq] => Ok(retrieve_values(endpoint, date, seq)?),
+        _ => Err(LineRefused::Reason(Why::Shape)),
+    }
+}
+
+fn retrieve_values(endpoint: &[u8], date: &[u8], seq: &[u8]) -> Result<Event, Why>
+    ensures { result ≡ retrieve_values endpoint.now date.now seq.now }
+{
+    let line = endpoint_in(endpoint).ok_or(Why::Value)?;
+    let date = date_in(date).ok_or(Why::Value)?;
+    let seq = seq_in(seq).ok_or(Why::Value)?;
+    Ok(Event {
+        act: Act::Retrieve {
+            line,
+            at: OutPos { date, seq },
+        },
+    })
+}

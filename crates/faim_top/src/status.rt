@@ -1,0 +1,45 @@
+// How a run ends.
+ghost use Rattle.std.specs.Prelude.{◌≡◌};
+ghost use Rattle.faim_top.specs.ExitCodes.{code_of};
+
+use crate::ScriptFault;
+
+/// Why an input was refused.
+#[derive(Clone, Copy, Debug, PartialEq, Eq)]
+pub enum Reason {
+    /// The text isn't a script.
+    Script(ScriptFault),
+}
+
+/// How a run ends.
+#[derive(Clone, Copy, Debug, PartialEq, Eq)]
+pub enum Status {
+    /// The input was read to its end, and what was asked for is written.
+    Done,
+    /// The words are no command. Nothing was read or written.
+    Usage,
+    /// The input was refused. Why is written, and nothing else.
+    Refused(Reason),
+    /// Memory ran out. Nothing was written.
+    NoMemory,
+    /// A read failed. Nothing was written.
+    ReadFault,
+    /// A write failed. What was to be written is written in part.
+    WriteFault,
+}
+
+impl Status {
+    /// The exit status of the program (docs/FORMATS.md, "Exit statuses").
+    pub fn code(&self) -> u8
+        ensures { result ≡ code_of self.now }
+    {
+        match self {
+            Status::Done => 0,
+            Status::Usage => 2,
+            Status::Refused(_) => 3,
+            Status::NoMemory => 4,
+            Status::ReadFault => 5,
+            Status::WriteFault => 6,
+        }
+    }
+}

@@ -1,0 +1,131 @@
+use super::{ALPHA, BETA, FIRST, HOST, Streams, run_over, text_of};
+use crate::{
+    Balances, Closing, Counts, Outcome, Reason, Script, ScriptFault, Status, Why, print_closing,
+    print_outcome, read_script,
+};
+use faim_base::{Aba, CycleDate, Endpoint, Places, Reject};
+use faim_model::HostOutcome;
+use host_ledger::Config;
+use std::test::Fail;
+
+#[test]
+fn other_words_are_no_command(rt: HostRuntime) -> Result<(), Fail> {
+    let streams = Streams {
+        cuts: &[],
+        read_fails: &[1],
+        write_fails: &[1],
+    };
+    let cases: [&[&str]; 7] = [
+        &[],
+        &[""],
+        &["replay", "x"],
+        &["check", "now"],
+        &["host"],
+        &["Replay"],
+        &["replay "],
+    ];
+    for words in cases {
+        let ran = run_over(rt.alloc(), words, b"", &streams)?;
+        assert_eq!(rt; ran.status, Status::Usage);
+        assert!(rt; ran.written.as_slice().is_empty());
+    }
+    Ok(())
+}
+
+#[test]
+fn faults_of_streams_end_a_run(rt: HostRuntime) -> Result<(), Fail> {
+    let script = text_of(rt.alloc(), &[HOST, ALPHA, BETA, "begin", FIRST])?;
+    let cuts = [100];
+    let cases: [(&[usize], &[usize], &[usize], Status); 5] = [
+        (&[], &[1], &[], Status::ReadFault),
+        (&[], &[], &[1], Status::WriteFault),
+        (&cuts, &[2], &[], Status::ReadFault),
+        (&[], &[2], &[], Status::ReadFault),
+        (&[], &[4], &[2], Status::Done),
+    ];
+    for (cuts, read_fails, write_fails, want) in cases {
+        let streams = Streams {
+            cuts,
+            read_fails,
+            write_fails,
+        };
+        let ran = run_over(rt.alloc(), &["replay"], script.as_slice(), &streams)?;
+        assert_eq!(rt; ran.status, want);
+        let is_done = want == Status::Done;
+        assert_eq!(rt; ran.written.as_slice().is_empty(), !is_done);
+    }
+    Ok(())
+}
+
+#[test]
+fn cuts_of_reads_change_nothing(rt: HostRuntime) -> Result<(), Fail> {
+    let script = text_of(rt.alloc(), &[HOST, ALPHA, BETA, "begin", FIRST])?;
+    let report =
+        b"1 taken 20240102BANKB001000001\ncycle 20240102\nbalance 021000021 850000\nbalance 121042882 150000\noutputs BANKA001 0\noutputs BANKB001 1\nend\n";
+    let mut all = Places::new(rt.alloc());
+    for cut in 1..script.as_slice().len() {
+        all.push(cut)?;
+        for cuts in [&[cut], all.as_slice()] {
+            let streams = Streams {
+                cuts,
+                read_fails: &[],
+                write_fails: &[],
+            };
+            let ran = run_over(rt.alloc(), &["replay"], script.as_slice(), &streams)?;
+            assert_eq!(rt; ran.status, Status::Done, "cut at {cut}");
+            assert_eq!(rt; ran.written.as_slice(), report.as_slice(), "cut at {cut}");
+        }
+    }
+    Ok(())
+}
+
+#[test]
+fn statuses_have_codes(rt: HostRuntime) {
+    let fault = ScriptFault {
+        line: 1,
+        why: Why::Ended,
+    };
+    for (status, code) in [
+        (Status::Done, 0),
+        (Status::Usage, 2),
+        (Status::Refused(Reason::Script(fault)), 3),
+        (Status::NoMemory, 4),
+        (Status::ReadFault, 5),
+        (Status::WriteFault, 6),
+    ] {
+        assert_eq!(rt; status.code(), code);
+    }
+}
+
+#[test]
+fn scripts_are_read_and_reports_printed(rt: HostRuntime) -> Result<(), Fail> {
+    let text = text_of(rt.alloc(), &[HOST, ALPHA, "begin", "submit BANKA001 HELLO"])?;
+    let Script { config, events } = read_script(rt.alloc(), text.as_slice())?;
+    let Config { date, accounts, .. } = config;
+    assert_eq!(rt; date.get(), 8_767);
+    assert_eq!(rt; accounts.as_slice().len(), 1);
+    assert_eq!(rt; events.as_slice().len(), 1);
+    let mut out = Vec::new(rt.alloc());
+    let why = Reject {
+        category: b'X',
+        code: 201,
+    };
+    let turned = Outcome::Host(HostOutcome::TurnedAway(why));
+    print_outcome(rt.alloc(), 12, &turned, &mut out)?;
+    let mut balances = Balances::new(rt.alloc());
+    let aba = Aba::read(b"021000021").ok_or("an account")?;
+    balances.push((aba, -5))?;
+    let mut outputs = Counts::new(rt.alloc());
+    let endpoint = Endpoint::read(b"BANKA001").ok_or("an endpoint")?;
+    outputs.push((endpoint, 7))?;
+    let cycle = CycleDate::read(b"20240102").ok_or("a date")?;
+    let closing = Closing {
+        cycle,
+        balances,
+        outputs,
+    };
+    print_closing(rt.alloc(), &closing, &mut out)?;
+    let want = b"12 turned X201\ncycle 20240102\nbalance 021000021 -5\noutputs BANKA001 7\nend\n";
+    assert_eq!(rt; out.as_slice(), want.as_slice());
+    Ok(())
+}

@@ -1,0 +1,4 @@
+mod Payment
+pub mod Places
+pub mod Posted
+pub mod Retrieval

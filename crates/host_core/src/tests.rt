@@ -1,0 +1,306 @@
+// A day of two banks: one on the line BANKA001 pays the other, on the line BANKB001.
+ghost use Rattle.std.specs.Prelude.{◌≡◌, ◌∷◌, [], IfOk, pos, codes};
+ghost use Rattle.faim_model.specs.Lawful.{Follows};
+
+use crate::*;
+use Change::{Amount, Code, Day, Edit, Line, Minute, Receiver, Sender, Subtype};
+use faim_base::{
+    Aba, Bytes, Cents, CycleDate, Endpoint, Head, Imad, Moment, OutPos, Reject, Seq, Verdict,
+};
+use host_ledger::{Account, Accounts, Config, Entry};
+use std::alloc::Global;
+use std::test::Fail;
+
+// The text of a payment.
+const TEXT: &[u8; 134] =
+    b"{1500}30USERREQ1T {1510}1000{1520}20240102BANKA001000001{2000}000000150000{3100}021000021ALPHA BANK*{3400}121042882BETA BANK*{3600}BTR";
+
+// What comes to the host, and when.
+#[derive(Clone, Copy)]
+struct Case {
+    line: Endpoint,
+    head: Head,
+    edit: Option<Reject>,
+    moment: Moment,
+}
+
+// What may be otherwise than in the payment.
+#[derive(Clone, Copy)]
+enum Change {
+    Line([u8; 8]),
+    Day(u32),
+    Sender([u8; 9]),
+    Receiver([u8; 9]),
+    Code([u8; 3]),
+    Subtype(u8),
+    Amount(u64),
+    Edit(u16),
+    Minute(u16),
+}
+
+// The payer's account, the receiver's, and no account.
+const PAYER: [u8; 9] = *b"021000021";
+
+const PAYEE: [u8; 9] = *b"121042882";
+
+const NOBODY: [u8; 9] = *b"231380104";
+
+#[test]
+fn the_first_refusal_that_holds_is_given(rt: HostRuntime) -> Result<(), Fail> {
+    let state = HostState::new(rt.alloc(), config(rt.alloc())?)?;
+    let strange = changed(&[Line(*b"BANKB001"), Day(8768)])?;
+    assert_eq!(rt; decided(&state, &strange, TEXT), Decision::WrongSource);
+    let cases: [(&[Change], u8, u16); 9] = [
+        (&[Day(8768), Edit(107)], b'H', 101),
+        (&[Edit(107), Sender(NOBODY)], b'E', 107),
+        (&[Sender(NOBODY), Receiver(NOBODY)], b'E', 161),
+        (&[Sender(PAYEE)], b'E', 161),
+        (&[Receiver(NOBODY), Minute(1110)], b'E', 162),
+        (&[Code(*b"CTR"), Minute(1080)], b'W', 301),
+        (&[Minute(1110), Amount(150_001)], b'W', 302),
+        (&[Subtype(32), Amount(150_001)], b'F', 401),
+        (&[Receiver(PAYER), Amount(150_001)], b'F', 401),
+    ];
+    for (changes, category, code) in cases {
+        let want = Decision::New(Verdict::Refused(Reject { category, code }));
+        assert_eq!(rt; decided(&state, &changed(changes)?, TEXT), want);
+    }
+    Ok(())
+}
+
+#[test]
+fn what_nothing_refuses_is_taken(rt: HostRuntime) -> Result<(), Fail> {
+    let state = HostState::new(rt.alloc(), config(rt.alloc())?)?;
+    let cases: [(&[Change], &[u8; 8]); 5] = [
+        (&[], b"BANKB001"),
+        (&[Receiver(PAYER)], b"BANKA001"),
+        (&[Code(*b"CTR"), Minute(1079)], b"BANKB001"),
+        (&[Minute(1109)], b"BANKB001"),
+        (&[Subtype(31), Amount(150_001)], b"BANKB001"),
+    ];
+    for (changes, name) in cases {
+        let want = Decision::New(Verdict::Taken {
+            dest: bank(name)?,
+            seq: number(1)?,
+        });
+        assert_eq!(rt; decided(&state, &changed(changes)?, TEXT), want);
+    }
+    Ok(())
+}
+
+#[test]
+fn a_host_begins_with_no_entry(rt: HostRuntime) -> Result<(), Fail> {
+    let state = HostState::new(rt.alloc(), config(rt.alloc())?)?;
+    assert!(rt; state.is_empty());
+    assert_eq!(rt; state.len(), 0);
+    assert!(rt; state.entry(0).is_none());
+    assert_eq!(rt; state.config().customer, 1080);
+    assert_eq!(rt; state.cycle().get(), 8767);
+    assert_eq!(rt; state.effective(moment(3)?).get(), 3);
+    Ok(())
+}
+
+#[test]
+fn a_posted_payment_stands(rt: HostRuntime) -> Result<(), Fail> {
+    let (mut state, entry) = opened(rt.alloc())?;
+    state.push(entry)?;
+    assert_eq!(rt; state.len(), 1);
+    assert!(rt; state.entry(0).is_some());
+    assert_eq!(rt; state.effective(moment(12_624_479)?).get(), 12_624_480);
+    let again = changed(&[Day(8767)])?;
+    assert_eq!(rt; decided(&state, &again, TEXT), Decision::Known(0));
+    assert_eq!(rt; decided(&state, &again, b"OTHER"), Decision::Differs(0));
+    Ok(())
+}
+
+#[test]
+fn a_posted_payment_moves_money(rt: HostRuntime) -> Result<(), Fail> {
+    let (mut state, entry) = opened(rt.alloc())?;
+    assert_eq!(rt; state.balance(&account(&PAYER)?), Some(1_000_000));
+    state.push(entry)?;
+    let cases = [
+        (PAYER, Some(850_000)),
+        (PAYEE, Some(150_000)),
+        (NOBODY, None),
+    ];
+    for (holder, cents) in cases {
+        assert_eq!(rt; state.balance(&account(&holder)?), cents);
+    }
+    Ok(())
+}
+
+#[test]
+fn a_posted_payment_is_given_to_its_receiver(rt: HostRuntime) -> Result<(), Fail> {
+    let (mut state, entry) = opened(rt.alloc())?;
+    state.push(entry)?;
+    assert_eq!(rt; state.outputs(bank(b"BANKA001")?), 0);
+    assert_eq!(rt; state.outputs(bank(b"BANKB001")?), 1);
+    for (from, count) in [
+        (b"20240102000001", 1),
+        (b"20240102000002", 0),
+        (b"20240101999999", 1),
+    ] {
+        let at = OutPos::read(from).ok_or("a position")?;
+        assert_eq!(rt;
+            state.retrieve(bank(b"BANKB001")?, at)?.as_slice().len(),
+            count
+        );
+    }
+    Ok(())
+}
+
+// What the host decides on a case of this text.
+fn decided(state: &HostState, case: &Case, body: &[u8]) -> Decision {
+    let message = Judged {
+        head: case.head,
+        body,
+        resent: false,
+        edit: case.edit,
+    };
+    state.decide(case.line, &message, case.moment)
+}
+
+// The payment at midnight of its day, on the line of the bank that pays, with these changes.
+fn changed(changes: &[Change]) -> Result<Case, Fail> {
+    let mut case = Case {
+        line: bank(b"BANKA001")?,
+        head: payment()?,
+        edit: None,
+        moment: moment(12_624_480)?,
+    };
+    for change in changes {
+        match *change {
+            Line(name) => case.line = bank(&name)?,
+            Day(days) => case.head.imad.date = date(days)?,
+            Sender(holder) => case.head.sender = account(&holder)?,
+            Receiver(holder) => case.head.receiver = account(&holder)?,
+            Code(code) => case.head.code = code,
+            Subtype(sub) => case.head.sub = sub,
+            Amount(amount) => case.head.amount = cents(amount)?,
+            Edit(code) => {
+                case.edit = Some(Reject {
+                    category: b'E',
+                    code,
+                })
+            }
+            Minute(minute) => case.moment = moment(12_624_480 + u32::from(minute))?,
+        }
+    }
+    Ok(case)
+}
+
+fn bank(name: &[u8; 8]) -> Result<Endpoint, Fail>
+    ensures { IfOk result (λ e. e ≡ name.now) }
+{
+    Ok(Endpoint::read(name).ok_or("an endpoint")?)
+}
+
+fn account(number: &[u8; 9]) -> Result<Aba, Fail>
+    ensures { IfOk result (λ a. a ≡ number.now) }
+{
+    Ok(Aba::read(number).ok_or("an account")?)
+}
+
+fn moment(minutes: u32) -> Result<Moment, Fail>
+    ensures { IfOk result (λ m. m ≡ minutes) }
+{
+    Ok(Moment::new(minutes).ok_or("a moment")?)
+}
+
+fn cents(amount: u64) -> Result<Cents, Fail>
+    ensures { IfOk result (λ c. c ≡ amount) }
+{
+    Ok(Cents::new(amount).ok_or("an amount")?)
+}
+
+fn date(days: u32) -> Result<CycleDate, Fail>
+    ensures { IfOk result (λ d. d ≡ days) }
+{
+    Ok(CycleDate::new(days).ok_or("a date")?)
+}
+
+fn number(n: u32) -> Result<Seq, Fail>
+    ensures { IfOk result (λ k. k ≡ n) }
+{
+    Ok(Seq::new(n).ok_or("a number")?)
+}
+
+// The head of the payment, as its text says.
+fn payment() -> Result<Head, Fail>
+    ensures { IfOk result (λ h. h ≡ record {
+      imad = record { date = 8767; source = codes "BANKA001"; seq = 1 };
+      sender = codes "021000021";
+      receiver = codes "121042882";
+      code = codes "BTR";
+      kind = 10;
+      sub = 0;
+      amount = 150_000;
+    }) }
+{
+    Ok(Head {
+        imad: Imad {
+            date: date(8767)?,
+            source: bank(b"BANKA001")?,
+            seq: number(1)?,
+        },
+        sender: account(b"021000021")?,
+        receiver: account(b"121042882")?,
+        code: *b"BTR",
+        kind: 10,
+        sub: 0,
+        amount: cents(150_000)?,
+    })
+}
+
+// 2024-01-02, with 18:00 and 18:30 as its cutoffs.
+fn config(alloc: Global) -> Result<Config, Fail>
+    ensures { IfOk result (λ c. c ≡ record {
+      env = 84;
+      date = 8767;
+      customer = 1080;
+      bank = 1110;
+      accounts = (record { aba = codes "021000021"; endpoint = codes "BANKA001"; opening = pos 1_000_000; floor = pos 850_000 })
+          ∷ (record { aba = codes "121042882"; endpoint = codes "BANKB001"; opening = pos 0; floor = pos 0 }) ∷ [];
+    }) }
+{
+    let mut accounts = Accounts::new(alloc);
+    accounts.push(Account {
+        aba: account(b"021000021")?,
+        endpoint: bank(b"BANKA001")?,
+        opening: 1_000_000,
+        floor: 850_000,
+    })?;
+    accounts.push(Account {
+        aba: account(b"121042882")?,
+        endpoint: bank(b"BANKB001")?,
+        opening: 0,
+        floor: 0,
+    })?;
+    Ok(Config {
+        env: b'T',
+        date: date(8767)?,
+        customer: 1080,
+        bank: 1110,
+        accounts,
+    })
+}
+
+// The host before its first entry, and the payment as that entry.
+fn opened(alloc: Global) -> Result<(HostState, Entry), Fail>
+    ensures { IfOk result (λ p. Follows p.0.config p.0.entries p.1) }
+{
+    let state = HostState::new(alloc, config(alloc)?)?;
+    let mut body = Bytes::new(alloc);
+    body.extend(TEXT)?;
+    let entry = Entry::Posted {
+        head: payment()?,
+        body,
+        resent: false,
+        moment: moment(12_624_480)?,
+        verdict: Verdict::Taken {
+            dest: bank(b"BANKB001")?,
+            seq: number(1)?,
+        },
+    };
+    Ok((state, entry))
+}

@@ -1,0 +1,10 @@
+//! The configuration of a host, and the entries of its list.
+#![tactic(auto)]
+
+mod config;
+mod entries;
+#[cfg(test)]
+mod tests;
+
+pub use config::{Account, Accounts, Config};
+pub use entries::{Entries, Entry};
