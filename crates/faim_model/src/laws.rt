@@ -1,16 +1,16 @@
 // Laws of lists of entries, the newest first, and of what a host does with a text.
-ghost use Rattle.std.specs.Prelude.{◌≡◌, ◌≢◌, ◌≤◌, ◌≤ℤ◌, ◌+ℤ◌, ◌-ℤ◌, pos, ℕ, Bool, true, List, ◌∷◌, Some, None, Ok, ◌↔◌};
+ghost use Rattle.std.specs.Prelude.{◌≡◌, ◌≢◌, ◌≤◌, ◌≤ℤ◌, ◌+ℤ◌, ◌-ℤ◌, ◌&&◌, bytes_eq, if◌then◌else◌, pos, ℕ, Bool, true, List, ◌∷◌, Some, None, Ok, ◌↔◌};
 ghost use Rattle.faim_base.specs.declared.ids.Imad.{Imad};
 ghost use Rattle.faim_base.specs.declared.judgement.Head.{Head};
 ghost use Rattle.faim_base.specs.declared.judgement.Reject.{Reject};
 ghost use Rattle.faim_base.specs.declared.judgement.Verdict.{Verdict};
-ghost use Rattle.faim_base.specs.declared.judgement.Verdict.TheVariants.{Taken};
+ghost use Rattle.faim_base.specs.declared.judgement.Verdict.TheVariants.{Refused, Taken};
 ghost use Rattle.faim_base.specs.Refusals.{e001, x201};
 ghost use Rattle.faim_message.specs.declared.judged.Plain.{Plain};
 ghost use Rattle.faim_message.specs.Plain.{body_of, plain_of};
 ghost use Rattle.host_ledger.specs.declared.config.Config.{Config};
 ghost use Rattle.host_ledger.specs.declared.entries.Entry.{Entry};
-ghost use Rattle.host_ledger.specs.declared.entries.Entry.TheVariants.{Posted};
+ghost use Rattle.host_ledger.specs.declared.entries.Entry.TheVariants.{Posted, Roll};
 ghost use Rattle.faim_model.specs.declared.decisions.HostOutcome.TheVariants.{Known, Recorded, TurnedAway};
 ghost use Rattle.faim_model.specs.Accounts.{floor_of};
 ghost use Rattle.faim_model.specs.Lists.{In};
@@ -35,6 +35,21 @@ pub fn balance_moves()
     ensures { (c : Config) (x : Entry) (older : List Entry) (aba : List ℕ)
         → balance c (x ∷ older) aba
         ≡ (balance c older aba +ℤ pos (gives x aba)) -ℤ pos (takes x aba) }
+{}
+
+/// Accepted messages of the subtypes that move money move it, from the sender to the receiver, and no others do. Amounts
+/// are in cents.
+pub fn accepted_messages_alone_move_money()
+    ensures accepted { (h : Head) (body : List ℕ) (resent : Bool) (moment : ℕ) (dest : List ℕ) (seq : ℕ) (aba : List ℕ)
+        → (gives (Posted h body resent moment (Taken dest seq)) aba
+        ≡ (if moves_money h && bytes_eq h.receiver aba then h.amount else 0))
+        × (takes (Posted h body resent moment (Taken dest seq)) aba
+        ≡ (if moves_money h && bytes_eq h.sender aba then h.amount else 0)) }
+    ensures refused { (h : Head) (body : List ℕ) (resent : Bool) (moment : ℕ) (why : Reject) (aba : List ℕ)
+        → (gives (Posted h body resent moment (Refused why)) aba ≡ 0)
+        × (takes (Posted h body resent moment (Refused why)) aba ≡ 0) }
+    ensures rolled { (moment date : ℕ) (aba : List ℕ)
+        → (gives (Roll moment date) aba ≡ 0) × (takes (Roll moment date) aba ≡ 0) }
 {}
 
 /// An accepted message that moves money leaves its sender's balance no lower than the floor.

@@ -6,7 +6,7 @@ mod laws;
 
 pub use decisions::{Decision, HostOutcome};
 pub use laws::{
-    balance_moves, numbered_in_order, other_text_is_turned, posted_once,
-    strange_texts_alone_are_e001, turn_follows, turned_changes_nothing, turns_stay_lawful,
-    verdict_stands, within_floor,
+    accepted_messages_alone_move_money, balance_moves, numbered_in_order, other_text_is_turned,
+    posted_once, strange_texts_alone_are_e001, turn_follows, turned_changes_nothing,
+    turns_stay_lawful, verdict_stands, within_floor,
 };

@@ -3,8 +3,10 @@
 
 mod config;
 mod entries;
+mod refusals;
 #[cfg(test)]
 mod tests;
 
 pub use config::{Account, Accounts, Config};
 pub use entries::{Entries, Entry};
+pub use refusals::is_recorded;

@@ -1,13 +1,24 @@
 //! What the program meets outside itself, as traits with contracts, and forms of them in memory.
 #![tactic(auto)]
 
+mod counts;
+mod disk;
+mod laws;
 mod memory_sink;
+mod memory_site;
 mod memory_source;
+mod past;
+mod patch;
+mod site;
+mod stop;
 mod streams;
-
-pub use memory_sink::MemSink;
-pub use memory_source::MemSource;
-pub use streams::{Sink, Source};
-
 #[cfg(test)]
 mod tests;
+
+pub use laws::{counts_on, left_now, left_on, nothing_pending, reads_left};
+pub use memory_sink::MemSink;
+pub use memory_site::MemSite;
+pub use memory_source::MemSource;
+pub use site::Site;
+pub use stop::StopSite;
+pub use streams::{Sink, Source};

@@ -1,0 +1,10 @@
+mod Examples
+pub mod Facts
+pub mod Runs
+pub mod Counts
+pub mod Goods
+pub mod Ends
+pub mod Greedy
+pub mod Heads
+pub mod Meaning
+pub mod Built

@@ -1,0 +1,20 @@
+-- The parts of a tag as they stand at the front of bytes.
+use Rattle.std.specs.Prelude.{ℕ, suc, ◌==◌, List, [], ◌∷◌, take, drop, replicate, if◌then◌else◌, slice_index}
+use Rattle.faim_tags.specs.Layouts.{is_of_class}
+
+-- how many bytes at the front are of these classes, one after another
+abbrev pub run_length : List ℕ → List ℕ → ℕ
+run_length [] bytes = 0
+run_length (c ∷ more) [] = 0
+run_length (c ∷ more) (b ∷ bytes) = if is_of_class c b then suc (run_length more bytes) else 0
+
+-- how many text bytes stand at the front, up to a number of them
+abbrev pub text_length : ℕ → List ℕ → ℕ
+text_length most bytes = run_length (replicate most 116) bytes
+
+-- the star elements at the front that have their star
+abbrev pub closed_stars : List ℕ → List ℕ → List (List ℕ)
+closed_stars [] bytes = []
+closed_stars (m ∷ most) bytes =
+    if slice_index bytes (text_length m bytes) == 42 then take (text_length m bytes) bytes ∷ closed_stars most (drop (suc (text_length m bytes)) bytes)
+    else []

@@ -1,0 +1,38 @@
+// Which layout a tag has.
+ghost use Rattle.std.specs.Prelude.{◌≡◌};
+ghost use Rattle.faim_tags.specs.Layouts.{row_of};
+
+use crate::table;
+use crate::table::Layout;
+use faim_base::TagNo;
+
+/// The layout of a tag.
+#[tactic(auto, unfolding(crate::specs::Layouts::row_of))]
+pub fn layout(no: TagNo) -> &'static Layout
+    ensures fixed { result.now.fixed.now ≡ (row_of no).elements }
+    ensures stars { result.now.stars.now ≡ (row_of no).most }
+{
+    match no.get() {
+        1100 => &table::DISPOSITION,
+        1110 => &table::RECEIPT,
+        1120 => &table::OUTPUT_IDENTIFIER,
+        1130 => &table::ERROR,
+        1500 => &table::SENDER_SUPPLIED,
+        1510 => &table::TYPE_AND_SUBTYPE,
+        1520 => &table::INPUT_IDENTIFIER,
+        2000 => &table::AMOUNT,
+        3100 | 3400 => &table::BANK,
+        3320 | 4320 => &table::REFERENCE,
+        3500 => &table::PREVIOUS,
+        3600 => &table::FUNCTION,
+        4000 | 4100 | 4200 | 4400 | 5000 | 5100 | 5200 => &table::PARTY,
+        5400 => &table::ACCOUNT,
+        6000 => &table::FOUR_LINES,
+        6100 | 6200 | 6300 | 6400 => &table::NOTICE,
+        6110 | 6210 | 6310 | 6410 => &table::ADVICE,
+        6420 => &table::METHOD,
+        6500 => &table::SIX_LINES,
+        9000 => &table::TWELVE_LINES,
+        _ => unreachable!(),
+    }
+}

@@ -1,0 +1,9 @@
+mod Gates
+mod Keeps
+mod Looking
+mod Made
+mod Records
+mod Resumed
+mod Steps
+mod Through
+mod Walking

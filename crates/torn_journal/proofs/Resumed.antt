@@ -1,0 +1,142 @@
+-- What a sync and questions behind it leave.
+use Rattle.std.proofs.Common.{◌≡◌, ◌⊎◌, inl, inr, ⊎_elim, ℕ, zero, suc, ◌+◌, ◌*◌, ◌≤◌, Bool, true, false, List, [], ◌∷◌, ◌++◌, length, replicate, refl, sym, ◌∙◌, ap, subst, Ok, Err, Result, Option, Some, None, arith, append_assoc, length-append}
+use Rattle.std.specs.Prelude.{IfSome, MatchBool, IsErrAnd}
+use Rattle.std.proofs.lemmas.List.{length-replicate}
+use Rattle.site_core.specs.Log.{Act, reads, sent, okays, LeavesImage, Left, NothingPending}
+use Rattle.site_core.specs.Log.Act.{Asked, Synced, SyncFailed}
+use Rattle.site_core.specs.Told.{Told, Goes, Syncs, IsSync, Ran}
+use Rattle.site_core.proofs.Moments.{only_reads, quiet_on, synced, still_asked, still_unsynced}
+use Rattle.site_core.proofs.Runs.{ran_as, ran_on}
+use Rattle.torn_journal.specs.declared.faults.ResumeFault.{ResumeFault}
+use Rattle.torn_journal.specs.declared.faults.ResumeFault.TheVariants.{SiteFault}
+use Rattle.torn_journal.specs.Journal.{IsJournal}
+use Rattle.torn_journal.specs.Resume.{Finds, IsLooking, HasLooked, Walks, no_fault}
+use Rattle.torn_journal.proofs.Looking.{IsAsking, reads_asked, sent_asked}
+
+okays_asked : (n : ℕ) → okays (replicate n Asked) ≡ n
+okays_asked zero = refl
+okays_asked (suc n) = omega (arith, okays_asked n)
+
+leaves_asked : (n : ℕ) (log : List Act) (image : List ℕ) → LeavesImage (replicate n Asked ++ log) image → LeavesImage log image
+leaves_asked zero log image left = left
+leaves_asked (suc n) log image left = leaves_asked n log image left
+
+still_all_asked : (n : ℕ) (log : List Act) → NothingPending log → NothingPending (replicate n Asked ++ log)
+still_all_asked zero log pending = pending
+still_all_asked (suc n) log pending = still_asked (replicate n Asked ++ log) (still_all_asked n log pending)
+
+-- questions leave at each moment what the moments before them do
+quiet_asked : (n t : ℕ) (log : List Act) (R : List ℕ) (S : List (List ℕ)) → ((image : List ℕ) → LeavesImage log image → image ≡ R) → sent log ≡ S
+    → ((image : List ℕ) (frames : List (List ℕ)) → Left t log image frames → (image ≡ R) × (frames ≡ S))
+    → (image : List ℕ) (frames : List (List ℕ)) → Left t (replicate n Asked ++ log) image frames → (image ≡ R) × (frames ≡ S)
+quiet_asked zero t log R S here same before = before
+quiet_asked (suc n) t log R S here same before =
+    quiet_on t Asked (replicate n Asked ++ log) S (λ image. image ≡ R) (λ image frames w. w) (sent_asked n log ∙ same)
+    (λ image left. here image (leaves_asked n log image left))
+    (quiet_asked n t log R S here same before)
+
+module _ (log now : List Act) (n : ℕ) (is : now ≡ replicate n Asked ++ (Synced ∷ log)) where
+  same_image : reads now ≡ reads log
+  same_image = ap reads is ∙ reads_asked n (Synced ∷ log)
+
+  same_sent : sent now ≡ sent log
+  same_sent = ap sent is ∙ sent_asked n (Synced ∷ log)
+
+  settled : NothingPending now
+  settled = subst NothingPending (sym is) (still_all_asked n (Synced ∷ log) (synced log))
+
+  quiet_all : NothingPending log → (image : List ℕ) (frames : List (List ℕ)) → Left (length log) now image frames → (image ≡ reads log) × (frames ≡ sent log)
+  quiet_all pending image frames left =
+      quiet_asked n (length log) (Synced ∷ log) (reads log) (sent log) (λ j l. l) refl
+      (quiet_on (length log) Synced log (sent log) (λ j. j ≡ reads log) (λ j f w. w) refl (λ j l. l) (λ j f l. only_reads log j f pending l))
+      image frames (subst (λ (l : List Act). Left (length log) l image frames) is left)
+
+  after_sync : (image : List ℕ) (frames : List (List ℕ)) → Left (length log + 1) now image frames → (image ≡ reads log) × (frames ≡ sent log)
+  after_sync image frames left =
+      let t : length log + 1 ≡ length (Synced ∷ log) = omega arith in
+      quiet_asked n (length (Synced ∷ log)) (Synced ∷ log) (reads log) (sent log) (λ j l. l) refl
+      (λ j f l. only_reads (Synced ∷ log) j f (synced log) l)
+      image frames (subst (λ k. Left k (replicate n Asked ++ (Synced ∷ log)) image frames) t (subst (λ (l : List Act). Left (length log + 1) l image frames) is left))
+
+module _ {E : Type 0} (u : Unit {0}) (x y z : Told) (call : Syncs {E = E} (Ok u) x y) where
+  behind : reads y.log ≡ reads x.log
+  behind = ap reads (call.ran.grew ∙ ap (λ (l : List Act). l ++ x.log) call.ran.are)
+
+  pub synced_reads : reads y.log ≡ reads x.log
+  synced_reads = behind
+
+  log_is : (whole : Bool) (walks : Walks whole y z) → z.log ≡ replicate walks.looks.are.0 Asked ++ (Synced ∷ x.log)
+  log_is whole walks = walks.looks.grew ∙ ap (λ (l : List Act). l ++ y.log) walks.looks.are.2 ∙ ap (λ (l : List Act). replicate walks.looks.are.0 Asked ++ l) (call.ran.grew ∙ ap (λ (l : List Act). l ++ x.log) call.ran.are)
+
+  few_calls : (whole : Bool) (walks : Walks whole y z) (ps : List (List ℕ)) → IsJournal (reads x.log) ps → z.calls ≤ x.calls + 2 * length ps + 5
+  few_calls true walks ps journal =
+      omega (arith, walks.few ps (subst (λ (l : List ℕ). IsJournal l ps) (sym behind) journal), walks.looks.ended.0, walks.looks.are.1, ap okays walks.looks.are.2, okays_asked walks.looks.are.0, call.ran.ended.0, ap okays call.ran.are)
+  few_calls false walks ps journal =
+      omega (arith, walks.few ps (subst (λ (l : List ℕ). IsJournal l ps) (sym behind) journal), walks.looks.ended.1, walks.looks.are.1, ap okays walks.looks.are.2, okays_asked walks.looks.are.0, call.ran.ended.0, ap okays call.ran.are)
+
+  pub looked : (whole : Bool) → Walks whole y z → HasLooked whole x z
+  looked true walks = record {
+    ran = ran_on true (IsSync {E = E} (Ok u)) (IsAsking walks.most) (IsLooking true) x y z (λ p q f g. (g.0, ap (λ (l : List Act). l ++ p) g.2 ∙ ap (λ (l : List Act). replicate g.0 Asked ++ l) f)) call.ran walks.looks;
+    few = few_calls true walks;
+    image = same_image x.log z.log walks.looks.are.0 (log_is true walks);
+    frames = same_sent x.log z.log walks.looks.are.0 (log_is true walks);
+    pending = settled x.log z.log walks.looks.are.0 (log_is true walks);
+    quiet = quiet_all x.log z.log walks.looks.are.0 (log_is true walks);
+    after = λ any. after_sync x.log z.log walks.looks.are.0 (log_is true walks);
+  }
+  looked false walks = record {
+    ran = ran_on false (IsSync {E = E} (Ok u)) (IsAsking walks.most) (IsLooking false) x y z (λ p q f g. inl (g.0, ap (λ (l : List Act). l ++ p) g.2 ∙ ap (λ (l : List Act). replicate g.0 Asked ++ l) f)) call.ran walks.looks;
+    few = few_calls false walks;
+    image = same_image x.log z.log walks.looks.are.0 (log_is false walks);
+    frames = same_sent x.log z.log walks.looks.are.0 (log_is false walks);
+    pending = λ before. settled x.log z.log walks.looks.are.0 (log_is false walks);
+    quiet = quiet_all x.log z.log walks.looks.are.0 (log_is false walks);
+    after = λ any. after_sync x.log z.log walks.looks.are.0 (log_is false walks);
+  }
+
+-- a sync that failed and left nothing, or its trace
+module _ (log now : List Act) (acts : List Act) (grew : now ≡ acts ++ log) (are : (acts ≡ []) ⊎ (acts ≡ SyncFailed ∷ [])) where
+  kept : (P : List Act → Type 0) → P log → P (SyncFailed ∷ log) → P now
+  kept P none failed = subst P (sym grew) (⊎_elim (λ e. subst (λ (l : List Act). P (l ++ log)) (sym e) none) (λ e. subst (λ (l : List Act). P (l ++ log)) (sym e) failed) are)
+
+  not_synced : (n : ℕ) → now ≡ replicate n Asked ++ Synced ∷ [] ++ log → ⊥
+  not_synced n is = ⊎_elim
+      (λ e. omega (arith, ap length is, ap length grew, ap length e, length-append acts log, length-append (replicate n Asked ++ Synced ∷ []) log, length-append (replicate n Asked) (Synced ∷ []), length-replicate {A = Act} n Asked))
+      (λ e. other n (sym is ∙ grew ∙ ap (λ (l : List Act). l ++ log) e))
+      are
+    where
+      other : (k : ℕ) → replicate k Asked ++ Synced ∷ [] ++ log ≡ SyncFailed ∷ log → ⊥
+      other zero same = cc
+      other (suc k) same = cc
+
+pub sync_failed : {E : Type 0} (e : E) (whole : Bool) → whole ≡ false → (x y : Told) → Syncs {T = Unit {0}} (Err e) x y → HasLooked whole x y
+sync_failed {E} e true wrong x y call = absurd cc
+sync_failed {E} e false same x y call = record {
+  ran = ran_as false (IsSync {T = Unit {0}} (Err e)) (IsLooking false) x y (λ acts are. inr are) call.ran;
+  few = λ ps journal. omega (arith, call.once);
+  image = kept x.log y.log call.ran.acts call.ran.grew call.ran.are (λ l. reads l ≡ reads x.log) refl refl;
+  frames = kept x.log y.log call.ran.acts call.ran.grew call.ran.are (λ l. sent l ≡ sent x.log) refl refl;
+  pending = λ before. kept x.log y.log call.ran.acts call.ran.grew call.ran.are NothingPending before (still_unsynced x.log before);
+  quiet = λ pending image frames left. kept x.log y.log call.ran.acts call.ran.grew call.ran.are (λ l. Left (length x.log) l image frames → (image ≡ reads x.log) × (frames ≡ sent x.log))
+      (λ l. only_reads x.log image frames pending l)
+      (quiet_on (length x.log) SyncFailed x.log (sent x.log) (λ j. j ≡ reads x.log) (λ j f w. w) refl (λ j l. pending.image j l) (λ j f l. only_reads x.log j f pending l) image frames)
+      left;
+  after = λ some. absurd (not_synced x.log y.log call.ran.acts call.ran.grew call.ran.are some.0 some.1);
+}
+
+-- what a site is known to read before calls that change nothing there
+pub read_before : (K : List ℕ → Type 0) (a b : Option Told) → Goes a b (λ x y. reads y.log ≡ reads x.log) → IfSome b (λ site. K (reads site.log)) → IfSome a (λ site. K (reads site.log))
+read_before K None b same known = tt
+read_before K (Some x) None same known = absurd same
+read_before K (Some x) (Some y) same known = subst K same known
+
+pub found_before : (follows : List (List ℕ) → List ℕ → Type 0) (stands : List (List ℕ) → Type 0) (a b : Option Told) (tail : ℕ) → Goes a b (λ x y. reads y.log ≡ reads x.log) → Finds follows stands b tail → Finds follows stands a tail
+found_before follows stands a b tail same finds = record {
+  payloads = finds.payloads;
+  stood = finds.stood;
+  each = finds.each;
+  followed = finds.followed;
+  place = finds.place;
+  small = finds.small;
+  image = read_before (λ image. IsJournal image finds.payloads) a b same finds.image;
+}

@@ -1,0 +1,5 @@
+use Rattle.torn_journal.proofs.Records.{one_list as one}
+use Rattle.torn_journal.proofs.laws.one_list.Goals as goal
+
+pub returns : goal.returns
+returns c = one

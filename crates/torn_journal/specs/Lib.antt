@@ -1,0 +1,5 @@
+pub mod Append
+pub mod Create
+pub mod Journal
+pub mod Resume
+pub mod Visits

@@ -1,0 +1,22 @@
+//! A journal of payloads over any site, which each stop leaves as it was or with one payload more.
+#![tactic(auto)]
+
+mod append;
+mod faults;
+mod frame;
+mod journal;
+mod laws;
+mod making;
+mod reading;
+mod resuming;
+#[cfg(test)]
+mod tests;
+mod visit;
+
+pub use faults::{AppendFault, CreateFault, ResumeFault};
+pub use frame::frame_payload;
+pub use journal::Journal;
+pub use laws::one_list;
+pub use making::create;
+pub use resuming::resume;
+pub use visit::{Visit, VisitFault};
