@@ -1,3 +1,6 @@
+pub mod Accounts
+pub mod Appends
 pub mod Codecs
+pub mod Configs
 pub mod Entries
 pub mod Pieces

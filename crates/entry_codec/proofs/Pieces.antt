@@ -1,35 +1,31 @@
--- The parts of an entry, each read exactly.
-use Rattle.std.proofs.Common.{◌≡◌, ◌⊎◌, inl, inr, ℕ, zero, suc, ◌+◌, ◌^◌, ◌<◌, ◌≤◌, ◌==◌, ◌&&◌, Bool, true, false, cond, nat_le, List, [], ◌∷◌, ◌++◌, length, Option, Some, None, refl, sym, ◌∙◌, ap, subst, append_assoc, arith}
+-- The parts of entries and configurations, each read exactly.
+use Rattle.std.proofs.Common.{◌≡◌, ℕ, zero, suc, ◌^◌, ◌<◌, ◌≤◌, ◌&&◌, Bool, true, false, nat_le, List, [], ◌∷◌, ◌++◌, length, Option, Some, refl, sym, ◌∙◌, ap, subst, append_assoc, arith}
 use Rattle.std.specs.Prelude.{IsTrue}
 use Rattle.std.specs.List.{list_all}
-use Rattle.std.specs.Int.{w16, w32, w64, to_be_bytes}
+use Rattle.std.specs.Int.{Width, w16, w32, w64, to_be_bytes}
 use Rattle.std.proofs.lemmas.Bool.{le-leb, leb-true}
 use Rattle.std.proofs.lemmas.Bool.Decides.{nat_tests}
 use Rattle.faim_base.specs.Ranges.{IsDay, IsEndpoint, IsSeq, IsImad}
-use Rattle.faim_base.specs.Refusals.{is_recorded}
 use Rattle.faim_base.specs.Text.{is_text_byte, is_endpoint, is_aba}
 use Rattle.faim_base.specs.declared.ids.Imad.{Imad}
-use Rattle.faim_base.specs.declared.judgement.Head.{Head}
-use Rattle.faim_base.specs.declared.judgement.Reject.{Reject}
-use Rattle.faim_base.specs.declared.judgement.Verdict.{Verdict}
-use Rattle.faim_base.specs.declared.judgement.Verdict.TheVariants.{Taken, Refused}
-use Rattle.entry_codec.specs.Spelling.{imad_bytes, head_bytes, flag, body_bytes, IsAba, IsHead, IsBody, IsMoment}
-use Rattle.entry_codec.specs.Reading.{◌>>=◌, tested, piece_at, number_at, byte_at, date_at, moment_at, seq_at, cents_at, endpoint_at, aba_at, code_at, kind_at, flag_at, imad_at, head_at, body_at}
-use Rattle.entry_codec.proofs.Codecs.{IsBytes, Takes, then_takes, Reads, some_is, test_some, step, step_again, refit, tested_reads, piece_reads, byte_reads, reads16, reads32, reads64}
+use Rattle.entry_codec.specs.Spelling.{imad_bytes, flag, body_bytes, IsAba, IsBody, IsMoment}
+use Rattle.entry_codec.specs.Reading.{◌>>=◌, tested, piece_at, number_at, byte_at, date_at, moment_at, seq_at, cents_at, endpoint_at, aba_at, code_at, kind_at, flag_at, imad_at, body_at}
+use Rattle.entry_codec.proofs.Codecs.{IsBytes, Takes, then_takes, Reads, some_is, step, step_again, refit, tested_reads, piece_reads, byte_reads, reads16, reads32, reads64}
 
-most_reads : (most : ℕ) → most < 2 ^ 32 → Reads (to_be_bytes w32) (λ n. n ≤ most) (λ bytes. tested (λ n. nat_le n most) (number_at w32 bytes))
-most_reads most lt = refit (to_be_bytes w32) (λ n. (n < 2 ^ 32) × IsTrue (nat_le n most)) (λ n. n ≤ most) (λ bytes. tested (λ n. nat_le n most) (number_at w32 bytes))
-    (tested_reads (to_be_bytes w32) (λ n. n < 2 ^ 32) (number_at w32) (λ n. nat_le n most) reads32)
+-- numbers up to one that fits
+pub most_reads : (w : Width) (limit : ℕ) → Reads (to_be_bytes w) (λ n. n < limit) (number_at w) → (most : ℕ) → most < limit → Reads (to_be_bytes w) (λ n. n ≤ most) (λ bytes. tested (λ n. nat_le n most) (number_at w bytes))
+most_reads w limit reads most lt = refit (to_be_bytes w) (λ n. (n < limit) × IsTrue (nat_le n most)) (λ n. n ≤ most) (λ bytes. tested (λ n. nat_le n most) (number_at w bytes))
+    (tested_reads (to_be_bytes w) (λ n. n < limit) (number_at w) (λ n. nat_le n most) reads)
     (λ n f. leb-true n most f.1)
     (λ n f. (omega (arith, f, lt), le-leb n most f))
 
 pub date_reads : Reads (to_be_bytes w32) IsDay date_at
 unfolding date_at
-date_reads = most_reads 2921939 (omega arith)
+date_reads = most_reads w32 (2 ^ 32) reads32 2921939 (omega arith)
 
 pub moment_reads : Reads (to_be_bytes w32) IsMoment moment_at
 unfolding moment_at
-moment_reads = most_reads 4207593599 (omega arith)
+moment_reads = most_reads w32 (2 ^ 32) reads32 4207593599 (omega arith)
 
 between : (n most : ℕ) → IsTrue (nat_le 1 n && nat_le n most) → (1 ≤ n) × (n ≤ most)
 between n most h = (grind (arith, nat_tests), grind (arith, nat_tests))
@@ -37,19 +33,20 @@ between n most h = (grind (arith, nat_tests), grind (arith, nat_tests))
 is_between : (n most : ℕ) → (1 ≤ n) × (n ≤ most) → IsTrue (nat_le 1 n && nat_le n most)
 is_between n most h = grind (arith, nat_tests)
 
+-- numbers from 1 to one that fits
+pub between_reads : (w : Width) (limit : ℕ) → Reads (to_be_bytes w) (λ n. n < limit) (number_at w) → (most : ℕ) → most < limit → Reads (to_be_bytes w) (λ n. (1 ≤ n) × (n ≤ most)) (λ bytes. tested (λ n. nat_le 1 n && nat_le n most) (number_at w bytes))
+between_reads w limit reads most lt = refit (to_be_bytes w) (λ n. (n < limit) × IsTrue (nat_le 1 n && nat_le n most)) (λ n. (1 ≤ n) × (n ≤ most)) (λ bytes. tested (λ n. nat_le 1 n && nat_le n most) (number_at w bytes))
+    (tested_reads (to_be_bytes w) (λ n. n < limit) (number_at w) (λ n. nat_le 1 n && nat_le n most) reads)
+    (λ n f. between n most f.1)
+    (λ n f. (omega (arith, f.1, lt), is_between n most f))
+
 pub seq_reads : Reads (to_be_bytes w32) IsSeq seq_at
 unfolding seq_at
-seq_reads = refit (to_be_bytes w32) (λ n. (n < 2 ^ 32) × IsTrue (nat_le 1 n && nat_le n 999999)) IsSeq (λ bytes. tested (λ n. nat_le 1 n && nat_le n 999999) (number_at w32 bytes))
-    (tested_reads (to_be_bytes w32) (λ n. n < 2 ^ 32) (number_at w32) (λ n. nat_le 1 n && nat_le n 999999) reads32)
-    (λ n f. between n 999999 f.1)
-    (λ n f. (omega (arith, f.1), is_between n 999999 f))
+seq_reads = between_reads w32 (2 ^ 32) reads32 999999 (omega arith)
 
 pub cents_reads : Reads (to_be_bytes w64) (λ n. n ≤ 999999999999) cents_at
 unfolding cents_at
-cents_reads = refit (to_be_bytes w64) (λ n. (n < 2 ^ 64) × IsTrue (nat_le n 999999999999)) (λ n. n ≤ 999999999999) (λ bytes. tested (λ n. nat_le n 999999999999) (number_at w64 bytes))
-    (tested_reads (to_be_bytes w64) (λ n. n < 2 ^ 64) (number_at w64) (λ n. nat_le n 999999999999) reads64)
-    (λ n f. leb-true n 999999999999 f.1)
-    (λ n f. (omega (arith, f), le-leb n 999999999999 f))
+cents_reads = most_reads w64 (2 ^ 64) reads64 999999999999 (omega arith)
 
 pub endpoint_reads : Reads (λ (p : List ℕ). p) IsEndpoint endpoint_at
 unfolding endpoint_at
@@ -115,23 +112,29 @@ imad_again i rest fit =
 pub imad_reads : Reads imad_bytes IsImad imad_at
 imad_reads = record { takes = imad_takes; again = imad_again }
 
+abbrev IsLength : ℕ → Type 0
+IsLength n = (1 ≤ n) × (n ≤ 4234)
+
+abbrev length_at : List ℕ → Option (ℕ × List ℕ)
+length_at bytes = tested (λ n. nat_le 1 n && nat_le n 4234) (number_at w16 bytes)
+
+length_reads : Reads (to_be_bytes w16) IsLength length_at
+length_reads = between_reads w16 (2 ^ 16) reads16 4234 (omega arith)
+
 body_takes : (bytes : List ℕ) (x : List ℕ × List ℕ) → IsBytes bytes → body_at bytes ≡ Some x → Takes bytes (body_bytes x.0) x.1 × IsBody x.0
 unfolding body_at
 body_takes bytes x fits e =
-    let n = step (to_be_bytes w16) (λ n. (n < 2 ^ 16) × IsTrue (nat_le 1 n && nat_le n 4234)) (λ bytes. tested (λ n. nat_le 1 n && nat_le n 4234) (number_at w16 bytes))
-    (tested_reads (to_be_bytes w16) (λ n. n < 2 ^ 16) (number_at w16) (λ n. nat_le 1 n && nat_le n 4234) reads16) (λ (n : ℕ × List ℕ). piece_at n.0 n.1) bytes x fits e in
-    let p = (piece_reads n.0.0).takes n.0.1 x n.1.fits n.3 in
-    let sized = between n.0.0 4234 n.2.1 in (
+    let n = step (to_be_bytes w16) IsLength length_at length_reads (λ (n : ℕ × List ℕ). piece_at n.0 n.1) bytes x fits e in
+    let p = (piece_reads n.0.0).takes n.0.1 x n.1.fits n.3 in (
       then_takes bytes (to_be_bytes w16 (length x.0)) n.0.1 x.0 x.1 (subst (λ k. Takes bytes (to_be_bytes w16 k) n.0.1) (sym p.1) n.1) p.0,
-      (omega (arith, sized.0, p.1), omega (arith, sized.1, p.1)),
+      (omega (arith, n.2.0, p.1), omega (arith, n.2.1, p.1)),
     )
 
 body_again : (b rest : List ℕ) → IsBody b → body_at (body_bytes b ++ rest) ≡ Some (b, rest)
 unfolding body_at
 body_again b rest fit =
     ap body_at (append_assoc (to_be_bytes w16 (length b)) b rest)
-    ∙ step_again (to_be_bytes w16) (λ n. (n < 2 ^ 16) × IsTrue (nat_le 1 n && nat_le n 4234)) (λ bytes. tested (λ n. nat_le 1 n && nat_le n 4234) (number_at w16 bytes))
-    (tested_reads (to_be_bytes w16) (λ n. n < 2 ^ 16) (number_at w16) (λ n. nat_le 1 n && nat_le n 4234) reads16) (λ (n : ℕ × List ℕ). piece_at n.0 n.1) (length b) (b ++ rest) (omega (arith, fit.1), is_between (length b) 4234 fit)
+    ∙ step_again (to_be_bytes w16) IsLength length_at length_reads (λ (n : ℕ × List ℕ). piece_at n.0 n.1) (length b) (b ++ rest) fit
     ∙ (piece_reads (length b)).again b rest refl
 
 pub body_reads : Reads body_bytes IsBody body_at

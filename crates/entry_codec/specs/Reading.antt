@@ -6,7 +6,6 @@ use Rattle.faim_base.specs.Refusals.{is_recorded}
 use Rattle.faim_base.specs.Text.{is_text_byte, is_endpoint, is_aba}
 use Rattle.faim_base.specs.declared.ids.Imad.{Imad}
 use Rattle.faim_base.specs.declared.judgement.Head.{Head}
-use Rattle.faim_base.specs.declared.judgement.Reject.{Reject}
 use Rattle.faim_base.specs.declared.judgement.Verdict.{Verdict}
 use Rattle.faim_base.specs.declared.judgement.Verdict.TheVariants.{Taken, Refused}
 use Rattle.host_ledger.specs.declared.entries.Entry.{Entry}

@@ -1,6 +1,8 @@
-//! The bytes of a host's entries: one spelling for each value, and it is read exactly.
+//! The bytes of a host's configuration and of its entries: one spelling for each value, and it is read exactly.
 #![tactic(auto)]
 
+mod config_reading;
+mod config_spelling;
 mod fault;
 mod parts;
 mod reading;
@@ -8,6 +10,8 @@ mod spelling;
 #[cfg(test)]
 mod tests;
 
+pub use config_reading::{one_config, read_config};
+pub use config_spelling::spell_config;
 pub use fault::CodecFault;
 pub use reading::{one_reading, read_entry};
 pub use spelling::spell_entry;

@@ -1,12 +1,10 @@
-// The parts of an entry, each read from the front of some bytes.
+// The parts of entries and configurations, each read from the front of some bytes.
 ghost use Rattle.std.specs.Prelude.{◌≡◌, ◌≤◌, Some, length};
 ghost use Rattle.std.specs.Int.{w16, w32, w64};
-ghost use Rattle.std.specs.List.{list_all};
-ghost use Rattle.faim_base.specs.Text.{is_text_byte};
 ghost use Rattle.entry_codec.specs.Reading.{Gives, piece_at, number_at, byte_at, date_at, moment_at, seq_at, cents_at, endpoint_at, aba_at, code_at, kind_at, flag_at};
 
 use crate::CodecFault;
-use faim_base::{Aba, Cents, CycleDate, Endpoint, Moment, Seq};
+use faim_base::{Aba, Cents, CycleDate, Endpoint, Moment, Seq, are_text};
 
 pub(crate) fn piece_of(bytes: &[u8], count: usize) -> Result<(&[u8], &[u8]), CodecFault>
     ensures { Gives (λ x. (x.0.now, x.1.now)) result (piece_at count bytes.now) }
@@ -158,22 +156,10 @@ pub(crate) fn code_of(bytes: &[u8]) -> Result<([u8; 3], &[u8]), CodecFault>
     ensures { Gives (λ x. (x.0, x.1.now)) result (code_at bytes.now) }
 {
     let (front, rest) = piece_of(bytes, 3)?;
-    if !is_text(front) {
+    if !are_text(front) {
         return Err(CodecFault::Damaged);
     }
     let mut code = [0; 3];
     code.copy_from_slice(front);
     Ok((code, rest))
-}
-
-fn is_text(bytes: &[u8]) -> bool
-    ensures { result ≡ list_all is_text_byte bytes.now }
-{
-    bytes.iter().all(|b| is_text_byte(*b))
-}
-
-fn is_text_byte(b: u8) -> bool
-    ensures { result ≡ is_text_byte b }
-{
-    32 <= b && b <= 126 && b != b'*' && b != b'{' && b != b'}'
 }

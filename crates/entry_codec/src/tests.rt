@@ -1,7 +1,7 @@
-// The bytes of entries, written out.
-use crate::{CodecFault, read_entry, spell_entry};
-use faim_base::{CycleDate, Moment, Verdict};
-use host_ledger::Entry;
+// The bytes of entries and of configurations, written out.
+use crate::{CodecFault, read_config, read_entry, spell_config, spell_entry};
+use faim_base::{Aba, CycleDate, Endpoint, Moment, Verdict};
+use host_ledger::{Account, Entry};
 use std::alloc::Global;
 use std::test::Fail;
 
@@ -119,6 +119,112 @@ fn cut_or_changed_bytes_are_damaged(rt: HostRuntime) -> Result<(), Fail> {
         match read_entry(alloc, &changed) {
             Err(CodecFault::Damaged) => {}
             _ => assert!(rt; false, "changed at {place}"),
+        }
+    }
+    Ok(())
+}
+
+// What comes before the accounts.
+const FIELDS: &[u8; 12] = b"CT\0\0\x22\x3f\x04\x38\x04\x56\0\x02";
+
+const FIRST: &[u8; 33] = b"021000021BANKA001\0\0\0\0\0\x0f\x42\x40\0\0\0\0\0\0\0\0";
+
+const SECOND: &[u8; 33] = b"121042882BANKB001\0\0\0\0\0\0\0\0\0\0\0\0\0\0\0\0";
+
+fn configuration(alloc: Global, fields: &[u8], first: &[u8]) -> Result<Vec<u8>, Fail> {
+    let mut bytes = Vec::new(alloc);
+    bytes.extend_from_slice(fields)?;
+    bytes.extend_from_slice(first)?;
+    bytes.extend_from_slice(SECOND)?;
+    Ok(bytes)
+}
+
+fn account(aba: &[u8; 9], endpoint: &[u8; 8], opening: i64, floor: i64) -> Result<Account, Fail> {
+    Ok(Account {
+        aba: Aba::read(aba).ok_or("a number")?,
+        endpoint: Endpoint::read(endpoint).ok_or("an endpoint")?,
+        opening,
+        floor,
+    })
+}
+
+#[test]
+fn a_configuration_of_two_accounts_has_78_bytes(rt: HostRuntime) -> Result<(), Fail> {
+    let alloc = rt.alloc();
+    let bytes = configuration(alloc, FIELDS, FIRST)?;
+    assert!(rt; bytes.len() == 78);
+    let config = read_config(alloc, &bytes).ok().ok_or("a configuration")?;
+    assert!(rt; config.env == b'T' && config.date.get() == 8767);
+    assert!(rt; config.customer == 1080 && config.bank == 1110);
+    let first = account(b"021000021", b"BANKA001", 1_000_000, 0)?;
+    let second = account(b"121042882", b"BANKB001", 0, 0)?;
+    assert!(rt; config.accounts.as_slice() == [first, second].as_slice());
+    let mut out = Vec::new(alloc);
+    spell_config(&config, &mut out)?;
+    assert!(rt; out.as_slice() == bytes.as_slice());
+    Ok(())
+}
+
+#[test]
+fn a_floor_may_be_negative(rt: HostRuntime) -> Result<(), Fail> {
+    let alloc = rt.alloc();
+    let first = b"021000021BANKA001\0\0\0\0\0\0\0\0\xff\xff\xff\xff\xff\xff\xfe\x0c";
+    let bytes = configuration(alloc, FIELDS, first)?;
+    let config = read_config(alloc, &bytes).ok().ok_or("a configuration")?;
+    match config.accounts.as_slice() {
+        [account, _] => assert!(rt; account.opening == 0 && account.floor == -500),
+        _ => assert!(rt; false),
+    }
+    Ok(())
+}
+
+#[test]
+fn a_configuration_has_all_its_bytes_and_no_others(rt: HostRuntime) -> Result<(), Fail> {
+    let alloc = rt.alloc();
+    let mut bytes = configuration(alloc, FIELDS, FIRST)?;
+    for count in 0..bytes.len() {
+        match read_config(alloc, &bytes[..count]) {
+            Err(CodecFault::Damaged) => {}
+            _ => assert!(rt; false, "cut at {count}"),
+        }
+    }
+    bytes.push(0)?;
+    match read_config(alloc, &bytes) {
+        Err(CodecFault::Damaged) => {}
+        _ => assert!(rt; false),
+    }
+    Ok(())
+}
+
+#[test]
+fn fields_outside_their_ranges_are_damaged(rt: HostRuntime) -> Result<(), Fail> {
+    let alloc = rt.alloc();
+    for fields in [
+        b"DT\0\0\x22\x3f\x04\x38\x04\x56\0\x02",
+        b"CX\0\0\x22\x3f\x04\x38\x04\x56\0\x02",
+        b"CT\0\x2c\x95\xd4\x04\x38\x04\x56\0\x02",
+        b"CT\0\0\x22\x3f\x05\xa1\x04\x56\0\x02",
+        b"CT\0\0\x22\x3f\x04\x38\x05\xa1\0\x02",
+        b"CT\0\0\x22\x3f\x04\x38\x04\x56\0\0",
+        b"CT\0\0\x22\x3f\x04\x38\x04\x56\0\x01",
+        b"CT\0\0\x22\x3f\x04\x38\x04\x56\0\x03",
+    ] {
+        let bytes = configuration(alloc, fields, FIRST)?;
+        match read_config(alloc, &bytes) {
+            Err(CodecFault::Damaged) => {}
+            _ => assert!(rt; false),
+        }
+    }
+    for first in [
+        b"02100002ABANKA001\0\0\0\0\0\x0f\x42\x40\0\0\0\0\0\0\0\0",
+        b"021000021BANK 001\0\0\0\0\0\x0f\x42\x40\0\0\0\0\0\0\0\0",
+        b"021000021BANKA001\0\0\0\xe8\xd4\xa5\x10\0\0\0\0\0\0\0\0\0",
+        b"021000021BANKA001\0\0\0\0\0\0\0\0\xff\xff\xff\x17\x2b\x5a\xf0\0",
+    ] {
+        let bytes = configuration(alloc, FIELDS, first)?;
+        match read_config(alloc, &bytes) {
+            Err(CodecFault::Damaged) => {}
+            _ => assert!(rt; false),
         }
     }
     Ok(())

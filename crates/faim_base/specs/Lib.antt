@@ -5,3 +5,4 @@ pub mod Ids
 pub mod Ranges
 pub mod Refusals
 pub mod Tags
+pub mod Lists

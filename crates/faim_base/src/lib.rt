@@ -1,6 +1,7 @@
 //! Shared types of the payment service: identifiers, numbers, dates, and lists that contracts see as lists.
 #![tactic(auto)]
 
+mod bytes;
 mod calendar;
 mod faults;
 mod ids;
@@ -13,6 +14,7 @@ mod numerals;
 #[cfg(test)]
 mod tests;
 
+pub use bytes::{are_digits, are_text, is_digit, is_text_byte};
 pub use calendar::{civil, stamp};
 pub use faults::{Failed, NoMemory};
 pub use ids::{IdFault, Imad, Omad, OutPos, Stamp};

@@ -1,5 +1,7 @@
 // Lists that contracts see as mathematical lists, without what their memory looks like.
-ghost use Rattle.std.specs.Prelude.{◌≡◌, [], ◌∷◌, ◌++◌, OnOk, OnErr};
+ghost use Rattle.std.specs.Prelude.{◌≡◌, ◌≤◌, ◌<◌, ◌↔◌, [], ◌∷◌, ◌++◌, length, insert, slice_set, slice_index_or, OnOk, OnErr, IsSome, IfSome};
+ghost use Rattle.std.specs.Borrow.{sem};
+ghost use Rattle.faim_base.specs.Lists.{LendsItem};
 
 use crate::{Endpoint, Moment, NoMemory};
 use std::alloc::Global;
@@ -50,6 +52,15 @@ impl<T> Items<T> {
     {
         self.items.as_slice()
     }
+
+    /// The item at a place, for writing. None exactly where the list ends before it.
+    pub fn get_mut(&mut self, at: usize) -> Option<&mut T>
+        ensures* writes_back { sem 𝓛 (LendsItem T.row self.entry at result) }
+        ensures there { IsSome result ↔ (at < length self.old) }
+        ensures value { IfSome result (λ item. item.now ≡ slice_index_or self.old at item.now) }
+    {
+        self.items.get_mut(at)
+    }
 }
 
 impl<T: Drop> Items<T> {
@@ -59,6 +70,16 @@ impl<T: Drop> Items<T> {
         ensures err { OnErr result (self.new ≡ self.old) }
     {
         self.items.push(item)?;
+        Ok(())
+    }
+
+    /// Puts the item in at a place, before what stands there; or changes nothing.
+    pub fn insert(&mut self, at: usize, item: T) -> Result<(), NoMemory>
+        requires { at ≤ length self.old }
+        ensures ok { OnOk result (self.new ≡ insert self.old at item) }
+        ensures err { OnErr result (self.new ≡ self.old) }
+    {
+        self.items.insert(at, item)?;
         Ok(())
     }
 }

@@ -1,7 +1,8 @@
 // Names of the ends of a line, and numbers of banks.
 ghost use Rattle.std.specs.Prelude.{◌≡◌, ◌+◌, ◌-◌, ◌*◌, ◌≤◌, IsTrue, length};
-ghost use Rattle.faim_base.specs.Text.{is_name_byte, is_digit, is_endpoint, is_aba, read_endpoint, read_aba, aba_holds};
+ghost use Rattle.faim_base.specs.Text.{is_endpoint, is_aba, read_endpoint, read_aba, aba_holds};
 
+use crate::bytes::{are_digits, is_name_byte};
 use std::marker::Model;
 
 /// An endpoint of the service: eight text bytes, none of them a blank (docs/FORMATS.md, "Bytes").
@@ -104,22 +105,10 @@ pub(crate) fn endpoint_in(bytes: &[u8]) -> Option<Endpoint>
     Endpoint::read(&name)
 }
 
-fn is_name_byte(b: u8) -> bool
-    ensures { result ≡ is_name_byte b }
-{
-    32 < b && b <= 126 && b != b'*' && b != b'{' && b != b'}'
-}
-
 fn is_aba(bytes: &[u8]) -> bool
     ensures { result ≡ is_aba bytes.now }
 {
-    bytes.iter().all(|b| is_digit(*b))
-}
-
-fn is_digit(b: u8) -> bool
-    ensures { result ≡ is_digit b }
-{
-    b.is_ascii_digit()
+    are_digits(bytes)
 }
 
 // Three digits, weighed 3, 7 and 1.

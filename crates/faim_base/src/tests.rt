@@ -215,3 +215,18 @@ fn lists_grow_at_their_end(rt: HostRuntime) -> Result<(), Fail> {
     assert_eq!(rt; days.as_slice().len(), 1);
     Ok(())
 }
+
+#[test]
+fn items_are_put_in_and_written_over(rt: HostRuntime) -> Result<(), Fail> {
+    let mut bytes = Bytes::new(rt.alloc());
+    bytes.extend(b"ad")?;
+    bytes.insert(1, b'c')?;
+    bytes.insert(3, b'e')?;
+    match bytes.get_mut(1) {
+        Some(byte) => *byte = b'b',
+        None => assert!(rt; false, "the second byte"),
+    }
+    assert!(rt; bytes.get_mut(4).is_none());
+    assert_eq!(rt; bytes.as_slice(), b"abde".as_slice());
+    Ok(())
+}

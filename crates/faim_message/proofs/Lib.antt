@@ -1,5 +1,22 @@
+pub mod Numbers
+pub mod Sound
+pub mod Flow
+pub mod Goes
+pub mod Arrive
+pub mod Judge
+pub mod Reasons
+pub mod Each
+pub mod Across
+mod Examples
 pub mod Pieces
 pub mod Readings
 pub mod Marks
 pub mod Bodies
+pub mod Duplication
+pub mod Finds
+pub mod Numbered
+pub mod ImadText
+pub mod Lengths
+pub mod BodyTexts
+pub mod Left
 pub mod PlainCode

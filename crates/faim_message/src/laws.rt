@@ -1,7 +1,54 @@
-// Laws of the texts of messages.
-ghost use Rattle.std.specs.Prelude.{◌≡◌, ◌⊎◌, ℕ, List, true, Some, slice_index};
+// Laws of the texts of messages. Each call does nothing: its contract is the law.
+ghost use Rattle.std.specs.Prelude.{◌≡◌, ◌≢◌, ◌⊎◌, ◌≤◌, ◌↔◌, ℕ, List, length, true, Some, is_some, slice_index};
+ghost use Rattle.faim_base.specs.declared.judgement.Refused.{Refused};
+ghost use Rattle.faim_message.specs.declared.form.Form.{Form};
 ghost use Rattle.faim_message.specs.declared.judged.Plain.{Plain};
 ghost use Rattle.faim_message.specs.Plain.{PlainParts, plain_text, plain_parts, plain_of, are_plain, body_of, with_mark};
+ghost use Rattle.faim_message.specs.Spelling.{Content, IsMessage, Spells, message_spelling, marked_with, body_text};
+ghost use Rattle.faim_message.specs.Refusal.{Begins, Refuses};
+ghost use Rattle.faim_message.specs.Stages.{reads, start};
+
+/// Of one form, one message has one spelling, and one spelling has one message.
+pub fn one_spelling_of_messages()
+    ensures message { (m w : Content) (bytes : List ℕ) → m.form ≡ w.form → Spells m bytes → Spells w bytes → m ≡ w }
+    ensures bytes { (m : Content) (a b : List ℕ) → Spells m a → Spells m b → a ≡ b }
+{}
+
+/// Bytes begin a message exactly where reading byte by byte doesn't stop in them.
+pub fn reading_tells_what_begins()
+    ensures read { (form : Form) (bytes : List ℕ) → is_some (reads form start bytes) ≡ true → Begins form bytes }
+    ensures begun { (form : Form) (bytes : List ℕ) → Begins form bytes → is_some (reads form start bytes) ≡ true }
+{}
+
+/// Bytes that spell a message of a form are refused for want of memory alone.
+pub fn spelled_is_not_refused()
+    ensures { (m : Content) (bytes : List ℕ) (e : Refused) → Spells m bytes → Refuses m.form bytes e → e ≡ Refused.NoMemory }
+{}
+
+/// No spelling of a message has more than 4,234 bytes (docs/FORMATS.md, "Messages").
+pub fn spellings_are_short()
+    ensures { (m : Content) (bytes : List ℕ) → Spells m bytes → length bytes ≤ 4_234 }
+{}
+
+/// The body's text of a submission is the spelling of the submission with a blank as its duplication code. Two submissions
+/// have one body exactly where they are equal but for that code (docs/FORMATS.md, "Messages").
+pub fn bodies_tell_messages_apart()
+    ensures spelled { (m : Content) → IsMessage m → m.form ≡ Form.Input → body_text m ≡ message_spelling (marked_with 32 m) }
+    ensures apart { (m w : Content) → IsMessage m → IsMessage w → m.form ≡ Form.Input → w.form ≡ Form.Input
+        → (body_text m ≡ body_text w) ↔ (marked_with 32 m ≡ marked_with 32 w) }
+{}
+
+/// Bytes spell a message of a form, or they are refused for another reason than want of memory.
+pub fn each_input_is_judged()
+    ensures { (form : Form) (bytes : List ℕ)
+        → ((m : Content) × Spells m bytes × (m.form ≡ form)) ⊎ ((e : Refused) × Refuses form bytes e × (e ≢ Refused.NoMemory)) }
+{}
+
+/// Bytes are refused for one reason, beside want of memory.
+pub fn one_refusal()
+    ensures { (form : Form) (bytes : List ℕ) (a b : Refused) → Refuses form bytes a → Refuses form bytes b
+        → (a ≡ b) ⊎ ((a ≡ Refused.NoMemory) ⊎ (b ≡ Refused.NoMemory)) }
+{}
 
 /// Each plain message has one text, and each text is that of one plain message at most
 /// (docs/FORMATS.md, "Plain messages").

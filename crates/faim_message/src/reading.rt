@@ -7,7 +7,7 @@ ghost use Rattle.faim_message.specs.Plain.{parts_in, are_plain, plain_text, plai
 ghost use Rattle.faim_message.specs.PlainViews.{seen, joined};
 
 use crate::Plain;
-use faim_base::{Aba, Cents, Head, Imad, aba_check, digits};
+use faim_base::{Aba, Cents, Head, Imad, aba_check, are_digits, are_text, digits};
 
 // The shortest text of a plain message, in bytes, and what stands behind the sender's name at least.
 const SHORTEST: usize = 115;
@@ -243,28 +243,4 @@ fn is_bank(text: &[u8]) -> bool
         Some(aba) => aba_check(&aba),
         None => false,
     }
-}
-
-fn are_text(text: &[u8]) -> bool
-    ensures { result ≡ list_all is_text_byte text.now }
-{
-    text.iter().all(|b| is_text_byte(*b))
-}
-
-fn is_text_byte(b: u8) -> bool
-    ensures { result ≡ is_text_byte b }
-{
-    32 <= b && b <= 126 && b != b'*' && b != b'{' && b != b'}'
-}
-
-fn are_digits(text: &[u8]) -> bool
-    ensures { result ≡ list_all is_digit text.now }
-{
-    text.iter().all(|b| is_digit(*b))
-}
-
-fn is_digit(b: u8) -> bool
-    ensures { result ≡ is_digit b }
-{
-    b.is_ascii_digit()
 }

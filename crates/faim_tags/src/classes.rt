@@ -1,23 +1,17 @@
 // Bytes of a class, one after another.
 ghost use Rattle.std.specs.Prelude.{◌≡◌, ◌+◌, ◌≤◌, length, replicate, MatchResult, ◌<◌, Result};
-ghost use Rattle.faim_base.specs.Text.{is_text_byte};
 ghost use Rattle.faim_tags.specs.Layouts.{is_of_class, each_class};
 ghost use Rattle.faim_tags.specs.Reading.{goes_on};
 ghost use Rattle.faim_tags.specs.Parts.{run_length};
 
 use crate::slices::after;
-
-fn is_text_byte(b: u8) -> bool
-    ensures { result ≡ is_text_byte b }
-{
-    32 <= b && b <= 126 && b != b'*' && b != b'{' && b != b'}'
-}
+use faim_base::{is_digit, is_text_byte};
 
 fn is_of_class(class: u8, b: u8) -> bool
     ensures { result ≡ is_of_class class b }
 {
     if class == b'n' {
-        b.is_ascii_digit()
+        is_digit(b)
     } else {
         is_text_byte(b)
     }

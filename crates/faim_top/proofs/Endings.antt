@@ -1,21 +1,44 @@
 -- What the end of a run says, by what was read and written.
-use Rattle.std.proofs.Common.{◌≡◌, ◌⊎◌, inl, inr, ⊎_elim, ℕ, ◌<◌, ◌≤◌, Bool, true, false, List, [], ◌++◌, length, length-append, append-nil, Option, Some, None, sym, ◌∙◌, ap, refl, subst, arith}
-use Rattle.std.specs.Prelude.{Result, Ok, Err, IfSome, IsSomeAnd, IsOk, nat_le, if◌then◌else◌}
-use Rattle.std.specs.Io.KnownBytes.{Appends, Consumes, IsAtEnd, Keeps}
+use Rattle.std.proofs.Common.{◌≡◌, ◌≢◌, ◌⊎◌, inl, inr, ⊎_elim, ℕ, zero, suc, ◌+◌, ◌<◌, ◌≤◌, Bool, true, false, List, [], ◌∷◌, ◌++◌, length, take, length-append, append-nil, Option, Some, None, sym, ◌∙◌, ap, refl, subst, arith}
+use Rattle.std.specs.Prelude.{Result, Ok, Err, IfSome, IsSomeAnd, nat_le, if◌then◌else◌}
+use Rattle.std.specs.Io.KnownBytes.{Appends, Consumes, IsAtEnd}
 use Rattle.std.proofs.lemmas.Bool.Decides.{nat_tests}
+use Rattle.std.proofs.lemmas.List.{length-take-le}
+use Rattle.faim_base.specs.declared.judgement.Refused as refusals
+use Rattle.faim_base.specs.declared.judgement.Refused.TheVariants as refused
+use Rattle.faim_message.specs.declared.form.Form.{Form}
+use Rattle.faim_message.specs.declared.form.Form.TheVariants.{Input}
+use Rattle.faim_message.specs.Spelling.{Content, Spells, message_spelling}
+use Rattle.faim_message.specs.Refusal.{Begins, StopsAt, Refuses}
+use Rattle.faim_top.specs.declared.command.Command.{Command}
+use Rattle.faim_top.specs.declared.command.Command.TheVariants.{Check, Replay}
 use Rattle.faim_top.specs.declared.script.Script.{Script}
 use Rattle.faim_top.specs.declared.script.ScriptFault.{ScriptFault}
 use Rattle.faim_top.specs.declared.script.Why.TheVariants.{Size}
 use Rattle.faim_top.specs.declared.status.Status.{Status}
-use Rattle.faim_top.specs.declared.status.Status.TheVariants.{Done, Usage, Refused, NoMemory, ReadFault, WriteFault}
+use Rattle.faim_top.specs.declared.status.Status.TheVariants.{Done, Refused, ReadFault, WriteFault}
+use Rattle.faim_top.specs.declared.status.Reason.{Reason}
 use Rattle.faim_top.specs.declared.status.Reason.TheVariants as reasons
+use Rattle.faim_top.specs.Checks.{IsInput, IsRefused, accepted_text, refusal_line}
 use Rattle.faim_top.specs.Grammar.{script_of, script_in, size_limit}
 use Rattle.faim_top.specs.Lines.{lines_of}
-use Rattle.faim_top.specs.Ends.{Ended, Reports, AppendsPart, answer_text, answer_status}
+use Rattle.faim_top.specs.Ends.{Ended, Answers, Checked, AppendsPart, IsAnswered, Writes, WritesPart, limit_of, answer_text, answer_status}
 
--- the source was read to its end, or what it gave is more than a script may have
-abbrev pub ReadWhole : Option (List ℕ) → List ℕ → Type 0
-ReadWhole rest text = IsAtEnd rest ⊎ (size_limit < length text)
+-- no message is longer than the longest
+abbrev pub AreShort : Type 0
+AreShort = (m : Content) (bytes : List ℕ) → Spells m bytes → length bytes ≤ 4_234
+
+-- a message isn't refused
+abbrev pub NotRefused : Type 0
+NotRefused = (m : Content) (bytes : List ℕ) (e : refusals.Refused) → Spells m bytes → Refuses m.form bytes e → e ≡ refused.NoMemory
+
+-- bytes are refused for one reason
+abbrev pub OneReason : Type 0
+OneReason = (form : Form) (bytes : List ℕ) (a b : refusals.Refused) → Refuses form bytes a → Refuses form bytes b → (a ≡ b) ⊎ ((a ≡ refused.NoMemory) ⊎ (b ≡ refused.NoMemory))
+
+-- the source was read to its end, or what it gave is more than the command takes
+abbrev pub ReadWhole : Command → Option (List ℕ) → List ℕ → Type 0
+ReadWhole command rest text = IsAtEnd rest ⊎ (length text ≡ limit_of command + 1)
 
 over_limit : (b : Bool) (read : Result Script ScriptFault) → b ≡ false → (if b then read else Err (record { line = 0; why = Size })) ≡ Err (record { line = 0; why = Size })
 over_limit true read e = absurd cc
@@ -24,74 +47,159 @@ over_limit false read e = refl
 too_long : (text : List ℕ) → size_limit < length text → script_of text ≡ Err (record { line = 0; why = Size })
 too_long text long = over_limit (nat_le (length text) size_limit) (script_in (lines_of text)) (grind (arith, nat_tests))
 
--- the bytes that were read are as good as all that there were
-same_script : (left rest : Option (List ℕ)) (text : List ℕ) → Consumes left rest text → ReadWhole rest text → IfSome left (λ whole. script_of whole ≡ script_of text)
-same_script None rest text taken whole = tt
-same_script (Some xs) None text taken whole = absurd taken
-same_script (Some xs) (Some ys) text taken whole = ⊎_elim
-    (λ (end : ys ≡ []). ap script_of (taken ∙ ap (λ (l : List ℕ). text ++ l) end ∙ append-nil text))
-    (λ (long : size_limit < length text). too_long xs (omega (arith, ap length taken, length-append text ys, long)) ∙ sym (too_long text long))
+-- what begins a message is no longer than one
+begins_short : AreShort → (form : Form) (bytes : List ℕ) → Begins form bytes → length bytes ≤ 4_234
+begins_short short form bytes b =
+    omega (arith, short b.message (message_spelling b.message) (record { sound = b.sound; spelled = refl }), ap length b.goes, length-append bytes b.rest)
+
+take_left : (k : ℕ) (text more : List ℕ) → k ≤ length text → take k (text ++ more) ≡ take k text
+take_left zero text more le = refl
+take_left (suc k) [] more le = absurd (omega (arith, le))
+take_left (suc k) (b ∷ text) more le = ap (λ (l : List ℕ). b ∷ l) (take_left k text more (omega (arith, le)))
+
+-- bytes that are longer than a message stop where they stop, whatever comes behind them
+stops_on : AreShort → (text more : List ℕ) (p : ℕ) → length text ≡ 4_235 → StopsAt Input text p → StopsAt Input (text ++ more) p
+stops_on short text more p long s =
+    let P : List ℕ → Type 0 = λ t. Begins Input t in
+    record {
+      short = omega (arith, s.short, length-append text more);
+      begins = subst P (sym (take_left p text more (omega (arith, s.short)))) s.begins;
+      longest = λ k le b.
+          let few : k ≤ 4_234 = omega (arith, begins_short short Input (take k (text ++ more)) b, length-take-le k (text ++ more) le) in
+          s.longest k (omega (arith, few, long)) (subst P (take_left k text more (omega (arith, few, long))) b);
+    }
+
+refuses_on : AreShort → (text more : List ℕ) (why : refusals.Refused) → length text ≡ 4_235 → IsRefused text why → IsRefused (text ++ more) why
+refuses_on short text more (refused.Byte p) long h = record { refuses = stops_on short text more p long h.refuses; judged = h.judged }
+refuses_on short text more refused.Cut long h = absurd (omega (arith, begins_short short Input text h.refuses.0, long))
+refuses_on short text more (refused.Missing n) long h = absurd (omega (arith, begins_short short Input text h.refuses.0, long))
+refuses_on short text more refused.NoMemory long h = absurd (h.judged refl)
+
+input_short : AreShort → (text : List ℕ) → IsInput text → length text ≤ 4_234
+input_short short text m = short m.message text m.spells
+
+-- more than the command takes is answered without what comes behind it
+answers_on : AreShort → (command : Command) (text more : List ℕ) (status : Status) (bytes : List ℕ) → length text ≡ limit_of command + 1
+    → Answers command text status bytes → Answers command (text ++ more) status bytes
+answers_on short Check text more status bytes long (inl h) = absurd (omega (arith, input_short short text h.0, long))
+answers_on short Check text more status bytes long (inr h) = inr (h.0, refuses_on short text more h.0 long h.1, h.2, h.3)
+answers_on short Replay text more status bytes long h =
+    let same : script_of text ≡ script_of (text ++ more) = too_long text (omega (arith, long)) ∙ sym (too_long (text ++ more) (omega (arith, long, length-append text more))) in
+    (h.0 ∙ ap answer_status same, h.1 ∙ ap answer_text same)
+
+-- what was read is answered as all that there was
+pub answers_whole : AreShort → (command : Command) (left rest : Option (List ℕ)) (text : List ℕ) (status : Status) (bytes : List ℕ)
+    → Consumes left rest text → ReadWhole command rest text → Answers command text status bytes → IfSome left (λ whole. Answers command whole status bytes)
+answers_whole short command None rest text status bytes taken whole h = tt
+answers_whole short command (Some xs) None text status bytes taken whole h = absurd taken
+answers_whole short command (Some xs) (Some ys) text status bytes taken whole h =
+    let P : List ℕ → Type 0 = λ t. Answers command t status bytes in
+    ⊎_elim
+    (λ (end : ys ≡ []). subst P (sym (taken ∙ ap (λ (l : List ℕ). text ++ l) end ∙ append-nil text)) h)
+    (λ (long : length text ≡ limit_of command + 1). subst P (sym taken) (answers_on short command text ys status bytes long h))
     whole
 
-at_end : (rest : Option (List ℕ)) (text : List ℕ) (s : Script) → script_of text ≡ Ok s → ReadWhole rest text → IsAtEnd rest
-at_end rest text s read whole = ⊎_elim (λ end. end) (λ long. absurd (cc (too_long text long, read))) whole
+-- an answer is that of an input that the command takes, or that it refuses
+proper_check : (text : List ℕ) (status : Status) (bytes : List ℕ) → Checked text status bytes → (status ≡ Done) ⊎ ((why : Reason) × (status ≡ Refused why))
+proper_check text status bytes (inl h) = inl h.1
+proper_check text status bytes (inr h) = inr (reasons.Text h.0, h.2)
 
-reports : (left : Option (List ℕ)) (old new : Option (List ℕ)) (text bytes : List ℕ) (s : Script) → IfSome left (λ whole. script_of whole ≡ script_of text) → script_of text ≡ Ok s
-    → Appends old new bytes → bytes ≡ answer_text (Ok s) → IfSome left (λ whole. Reports (script_of whole) old new)
-reports None old new text bytes s same read grew is = tt
-reports (Some xs) old new text bytes s same read grew is = subst (λ (r : Result Script ScriptFault). Reports r old new) (sym (same ∙ read)) (subst (λ (l : List ℕ). Appends old new l) is grew)
+proper_script : (read : Result Script ScriptFault) (status : Status) → status ≡ answer_status read → (status ≡ Done) ⊎ ((why : Reason) × (status ≡ Refused why))
+proper_script (Ok s) status e = inl e
+proper_script (Err f) status e = inr (reasons.Script f, e)
 
-refusal : (left : Option (List ℕ)) (old new : Option (List ℕ)) (text bytes : List ℕ) (f : ScriptFault) → IfSome left (λ whole. script_of whole ≡ script_of text) → script_of text ≡ Err f
-    → Appends old new bytes → bytes ≡ answer_text (Err f) → IfSome left (λ whole. (script_of whole ≡ Err f) × Appends old new (answer_text (Err f)))
-refusal None old new text bytes f same read grew is = tt
-refusal (Some xs) old new text bytes f same read grew is = (same ∙ read, subst (λ (l : List ℕ). Appends old new l) is grew)
+proper : (command : Command) (text : List ℕ) (status : Status) (bytes : List ℕ) → Answers command text status bytes → (status ≡ Done) ⊎ ((why : Reason) × (status ≡ Refused why))
+proper Check text status bytes h = proper_check text status bytes h
+proper Replay text status bytes h = proper_script (script_of text) status h.0
 
-written_by : (left rest old new : Option (List ℕ)) (text bytes : List ℕ) (read : Result Script ScriptFault) → script_of text ≡ read → Consumes left rest text → ReadWhole rest text
-    → Appends old new bytes → bytes ≡ answer_text read → Ended (answer_status read) left rest old new
-written_by left rest old new text bytes (Ok s) is taken whole grew same = (reports left old new text bytes s (same_script left rest text taken whole) is grew same, at_end rest text s is whole)
-written_by left rest old new text bytes (Err f) is taken whole grew same = refusal left old new text bytes f (same_script left rest text taken whole) is grew same
+-- an answer is no fault
+pub no_fault : (command : Command) (text : List ℕ) (status : Status) (bytes : List ℕ) → Answers command text status bytes → ((status ≡ ReadFault) ⊎ (status ≡ WriteFault)) → ⊥
+no_fault command text status bytes h fault = ⊎_elim
+    (λ (e : status ≡ Done). ⊎_elim (λ (r : status ≡ ReadFault). absurd (cc (e, r))) (λ (w : status ≡ WriteFault). absurd (cc (e, w))) fault)
+    (λ (e : (why : Reason) × (status ≡ Refused why)). let f : status ≡ Refused e.0 = e.1 in ⊎_elim (λ (r : status ≡ ReadFault). absurd (cc (f, r))) (λ (w : status ≡ WriteFault). absurd (cc (f, w))) fault)
+    (proper command text status bytes h)
+
+done_short : (read : Result Script ScriptFault) → Done ≡ answer_status read → (f : ScriptFault) → read ≡ Err f → ⊥
+done_short (Ok s) e f h = cc
+done_short (Err g) e f h = cc
+
+-- what is done was read to its end
+done_at_end : AreShort → (command : Command) (rest : Option (List ℕ)) (text bytes : List ℕ) → ReadWhole command rest text → Answers command text Done bytes → IsAtEnd rest
+done_at_end short command rest text bytes (inl end) h = end
+done_at_end short Check rest text bytes (inr long) (inl h) = absurd (omega (arith, input_short short text h.0, long))
+done_at_end short Check rest text bytes (inr long) (inr h) = absurd (let wrong : Done ≡ Refused (reasons.Text h.0) = h.2 in cc)
+done_at_end short Replay rest text bytes (inr long) h = absurd (done_short (script_of text) h.0 (record { line = 0; why = Size }) (too_long text (omega (arith, long))))
+
+writes : (command : Command) (left old new : Option (List ℕ)) (status : Status) (bytes answer : List ℕ)
+    → IfSome left (λ whole. Answers command whole status bytes) → Appends old new bytes → IfSome left (λ whole. Writes command whole status old new)
+writes command None old new status bytes answer h grew = tt
+writes command (Some xs) old new status bytes answer h grew = record { bytes = bytes; answers = h; written = grew }
 
 -- all of the answer is written
-pub written : (left rest old new : Option (List ℕ)) (text bytes : List ℕ) (status : Status) → Consumes left rest text → ReadWhole rest text
-    → Appends old new bytes → bytes ≡ answer_text (script_of text) → status ≡ answer_status (script_of text) → Ended status left rest old new
-written left rest old new text bytes status taken whole grew same is =
-    subst (λ (x : Status). Ended x left rest old new) (sym is) (written_by left rest old new text bytes (script_of text) refl taken whole grew same)
-
-part_of : (left old new : Option (List ℕ)) (text bytes : List ℕ) → IfSome left (λ whole. script_of whole ≡ script_of text) → AppendsPart old new bytes → bytes ≡ answer_text (script_of text)
-    → IfSome left (λ whole. AppendsPart old new (answer_text (script_of whole)))
-part_of None old new text bytes same part is = tt
-part_of (Some xs) old new text bytes same part is = subst (λ (l : List ℕ). AppendsPart old new l) (is ∙ ap answer_text (sym same)) part
+pub written : AreShort → (command : Command) (left rest old new : Option (List ℕ)) (text : List ℕ) (status : Status) (bytes : List ℕ)
+    → Consumes left rest text → ReadWhole command rest text → Answers command text status bytes → Appends old new bytes → Ended command status left rest old new
+written short command left rest old new text status bytes taken whole h grew =
+    let P : Status → Type 0 = λ s. Ended command s left rest old new in
+    let Q : Status → Type 0 = λ s. Answers command text s bytes in
+    ⊎_elim
+    (λ (e : status ≡ Done).
+    let done = subst Q e h in
+    subst P (sym e) (writes command left old new Done bytes bytes (answers_whole short command left rest text Done bytes taken whole done) grew, done_at_end short command rest text bytes whole done))
+    (λ (e : (why : Reason) × (status ≡ Refused why)).
+    let f : status ≡ Refused e.0 = e.1 in
+    subst P (sym f) (writes command left old new (Refused e.0) bytes bytes (answers_whole short command left rest text (Refused e.0) bytes taken whole (subst Q f h)) grew))
+    (proper command text status bytes h)
 
 -- a part of it is
-pub written_part : (left rest old new : Option (List ℕ)) (text bytes : List ℕ) → Consumes left rest text → ReadWhole rest text
-    → AppendsPart old new bytes → bytes ≡ answer_text (script_of text) → Ended WriteFault left rest old new
-written_part left rest old new text bytes taken whole part is = part_of left old new text bytes (same_script left rest text taken whole) part is
+writes_part : (command : Command) (left old new : Option (List ℕ)) (status : Status) (bytes : List ℕ)
+    → IfSome left (λ whole. Answers command whole status bytes) → AppendsPart old new bytes → IfSome left (λ whole. WritesPart command whole old new)
+writes_part command None old new status bytes h part = tt
+writes_part command (Some xs) old new status bytes h part = record { status = status; bytes = bytes; answers = h; part = part }
 
-ok_is_done : (read : Result Script ScriptFault) → IsOk read → answer_status read ≡ Done
-ok_is_done (Ok s) ok = refl
-ok_is_done (Err f) ok = absurd cc
+pub written_part : AreShort → (command : Command) (left rest old new : Option (List ℕ)) (text : List ℕ) (status : Status) (bytes : List ℕ)
+    → Consumes left rest text → ReadWhole command rest text → Answers command text status bytes → AppendsPart old new bytes → Ended command WriteFault left rest old new
+written_part short command left rest old new text status bytes taken whole h part =
+    writes_part command left old new status bytes (answers_whole short command left rest text status bytes taken whole h) part
 
--- a script is done
-pub done : (left rest : Option (List ℕ)) (text : List ℕ) (status : Status) → Consumes left rest text → ReadWhole rest text → status ≡ answer_status (script_of text)
-    → IsSomeAnd left (λ whole. IsOk (script_of whole)) → status ≡ Done
-done None rest text status taken whole is good = absurd good
-done (Some xs) rest text status taken whole is good =
-    let same = same_script (Some xs) rest text taken whole in
-    is ∙ ok_is_done (script_of text) (subst (λ (r : Result Script ScriptFault). IsOk r) same good)
+-- an input has one answer
+same_reason : OneReason → (text : List ℕ) (a b : refusals.Refused) → IsRefused text a → IsRefused text b → a ≡ b
+same_reason once text a b h k = ⊎_elim
+    (λ (same : a ≡ b). same)
+    (λ (none : (a ≡ refused.NoMemory) ⊎ (b ≡ refused.NoMemory)). ⊎_elim (λ (e : a ≡ refused.NoMemory). absurd (h.judged e)) (λ (e : b ≡ refused.NoMemory). absurd (k.judged e)) none)
+    (once Input text a b h.refuses k.refuses)
 
--- another text is refused
-pub refused : (left rest : Option (List ℕ)) (text : List ℕ) (status : Status) (f : ScriptFault) → Consumes left rest text → ReadWhole rest text → status ≡ answer_status (script_of text)
-    → IsSomeAnd left (λ whole. script_of whole ≡ Err f) → status ≡ Refused (reasons.Script f)
-refused None rest text status f taken whole is bad = absurd bad
-refused (Some xs) rest text status f taken whole is bad =
-    let same = same_script (Some xs) rest text taken whole in
-    is ∙ ap answer_status (sym same ∙ bad)
+not_both : NotRefused → (text : List ℕ) (why : refusals.Refused) → IsInput text → IsRefused text why → ⊥
+not_both never text why m h =
+    let P : Form → Type 0 = λ f. Refuses f text why in
+    h.judged (never m.message text why m.spells (subst P (sym m.kind) h.refuses))
 
--- a text is never answered by a fault
-pub no_read_fault : (read : Result Script ScriptFault) (status : Status) → status ≡ answer_status read → status ≡ ReadFault → ⊥
-no_read_fault (Ok s) status is fault = cc
-no_read_fault (Err f) status is fault = cc
+one_check : NotRefused → OneReason → (text : List ℕ) (s t : Status) (a b : List ℕ) → Checked text s a → Checked text t b → (s ≡ t) × (a ≡ b)
+one_check never once text s t a b (inl h) (inl k) = (h.1 ∙ sym k.1, h.2 ∙ sym k.2)
+one_check never once text s t a b (inl h) (inr k) = absurd (not_both never text k.0 h.0 k.1)
+one_check never once text s t a b (inr h) (inl k) = absurd (not_both never text h.0 k.0 h.1)
+one_check never once text s t a b (inr h) (inr k) =
+    let same : h.0 ≡ k.0 = same_reason once text h.0 k.0 h.1 k.1 in
+    (h.2 ∙ ap (λ (e : refusals.Refused). Refused (reasons.Text e)) same ∙ sym k.2, h.3 ∙ ap refusal_line same ∙ sym k.3)
 
-pub no_write_fault : (read : Result Script ScriptFault) (status : Status) → status ≡ answer_status read → status ≡ WriteFault → ⊥
-no_write_fault (Ok s) status is fault = cc
-no_write_fault (Err f) status is fault = cc
+pub one_answer : NotRefused → OneReason → (command : Command) (text : List ℕ) (s t : Status) (a b : List ℕ) → Answers command text s a → Answers command text t b → (s ≡ t) × (a ≡ b)
+one_answer never once Check text s t a b h k = one_check never once text s t a b h k
+one_answer never once Replay text s t a b h k = (h.0 ∙ sym k.0, h.1 ∙ sym k.1)
+
+-- an input is a message, or it is refused
+abbrev pub EachJudged : Type 0
+EachJudged = (form : Form) (bytes : List ℕ) → ((m : Content) × Spells m bytes × (m.form ≡ form)) ⊎ ((e : refusals.Refused) × Refuses form bytes e × (e ≢ refused.NoMemory))
+
+-- an input has an answer
+pub some_answer : EachJudged → (command : Command) (text : List ℕ) → (status : Status) × IsAnswered command status text
+some_answer each Check text = ⊎_elim
+    (λ (m : (m : Content) × Spells m text × (m.form ≡ Input)). (Done, (accepted_text text, inl (record { message = m.0; kind = m.2; spells = m.1 }, refl, refl))))
+    (λ (e : (e : refusals.Refused) × Refuses Input text e × (e ≢ refused.NoMemory)). (Refused (reasons.Text e.0), (refusal_line e.0, inr (e.0, record { refuses = e.1; judged = e.2 }, refl, refl))))
+    (each Input text)
+some_answer each Replay text = (answer_status (script_of text), (answer_text (script_of text), (refl, refl)))
+
+-- the status is that of the answer
+pub answered : AreShort → NotRefused → OneReason → (command : Command) (left rest : Option (List ℕ)) (text : List ℕ) (status : Status) (bytes : List ℕ) (wanted : Status)
+    → Consumes left rest text → ReadWhole command rest text → Answers command text status bytes → IsSomeAnd left (IsAnswered command wanted) → status ≡ wanted
+answered short never once command None rest text status bytes wanted taken whole h want = absurd want
+answered short never once command (Some xs) rest text status bytes wanted taken whole h want =
+    (one_answer never once command xs status wanted bytes want.0 (answers_whole short command (Some xs) rest text status bytes taken whole h) want.1).0

@@ -1,8 +1,8 @@
 -- The first line of a text, and the lines behind it.
-use Rattle.std.proofs.Common.{◌≡◌, ℕ, ◌+◌, ◌<◌, Bool, true, false, List, [], ◌∷◌, length, Option, Some, None, sym, ◌∙◌, ap, refl, arith}
+use Rattle.std.proofs.Common.{◌≡◌, ℕ, ◌<◌, List, [], ◌∷◌, length, Some, None, arith}
 use Rattle.std.proofs.lemmas.Bool.Decides.{nat_tests}
 use Rattle.std.specs.Prelude.{◌==◌}
-use Rattle.faim_top.specs.Lines.{is_line_end, lines_of, onto_first, until, behind}
+use Rattle.faim_top.specs.Lines.{lines_of, until, behind}
 
 -- where an end of line stands, and where none does
 pub cut_line : (text rest : List ℕ) → behind (λ b. b == 10) text ≡ Some rest → lines_of text ≡ until (λ b. b == 10) text ∷ lines_of rest

@@ -7,7 +7,7 @@ use Rattle.faim_message.specs.declared.judged.Plain.{Plain}
 use Rattle.faim_message.specs.Plain.{body_of, plain_of}
 use Rattle.host_ledger.specs.declared.config.Config.{Config}
 use Rattle.host_ledger.specs.declared.entries.Entry.{Entry}
-use Rattle.faim_model.specs.Turns.{HostTurn, submitted, submitted_plain, submitted_head, effective}
+use Rattle.faim_model.specs.Turns.{submitted, submitted_plain, submitted_head, effective}
 use Rattle.faim_top.specs.Posting.{posted_turn}
 
 pub read_turn : (c : Config) (es : List Entry) (line : List ℕ) (reading : ℕ) (text : List ℕ) (p : Plain) (h : Head) (moment : ℕ) (body : List ℕ)

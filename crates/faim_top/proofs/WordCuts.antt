@@ -1,8 +1,8 @@
 -- The words of a line, when the first of them is cut off.
-use Rattle.std.proofs.Common.{◌≡◌, ◌⊎◌, ⊎_elim, ℕ, zero, suc, ◌+◌, ◌-◌, ◌<◌, ◌≤◌, List, [], ◌∷◌, ◌++◌, length, get_or, map, Bor, Option, Some, None, refl, sym, ◌∙◌, ap, arith, append_assoc, append-nil}
+use Rattle.std.proofs.Common.{◌≡◌, ◌⊎◌, ⊎_elim, ℕ, zero, suc, ◌-◌, ◌<◌, ◌≤◌, List, [], ◌∷◌, length, get_or, map, Bor, Option, Some, None, refl, sym, ◌∙◌, ap, arith}
 use Rattle.std.specs.Prelude.{Err}
 use Rattle.faim_top.specs.declared.script.Why.TheVariants.{Shape}
-use Rattle.faim_top.specs.Grammar.{host_words, account_words, submit_words, retrieve_words}
+use Rattle.faim_top.specs.Grammar.{host_words, account_words}
 use Rattle.faim_top.specs.Lines.{is_blank, first_word, behind, words_behind, words_of}
 
 pub words_cut : (most : ℕ) (line : List ℕ) → 0 < most → words_of most line ≡ first_word line ∷ words_behind (words_of (most - 1)) (behind is_blank line)

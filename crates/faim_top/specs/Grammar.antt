@@ -1,12 +1,11 @@
 -- Which texts are scripts, and the first fault of any other (docs/FORMATS.md, "Scripts").
-use Rattle.std.specs.Prelude.{ℕ, ◌+◌, ◌*◌, ◌==◌, ◌&&◌, ◌||◌, not, nat_le, nat_lt, Bool, false, List, [], ◌∷◌, ◌++◌, length, codes, bytes_eq, Option, Some, None, is_some, Result, Ok, Err, if◌then◌else◌}
+use Rattle.std.specs.Prelude.{ℕ, ◌+◌, ◌==◌, ◌&&◌, ◌||◌, not, nat_le, Bool, List, [], ◌∷◌, ◌++◌, length, codes, bytes_eq, is_some, Result, Ok, Err, if◌then◌else◌}
 use Rattle.faim_base.specs.Ids.{◌>>=◌, or_fault}
 use Rattle.host_ledger.specs.declared.config.Account.{Account}
 use Rattle.host_ledger.specs.declared.config.Config.{Config}
 use Rattle.faim_model.specs.Accounts.{account_in, has_endpoint, endpoints_of}
 use Rattle.faim_top.specs.declared.script.Script.{Script}
 use Rattle.faim_top.specs.declared.script.Event.{Event}
-use Rattle.faim_top.specs.declared.script.Act.{Act}
 use Rattle.faim_top.specs.declared.script.Act.TheVariants.{Submit, Retrieve}
 use Rattle.faim_top.specs.declared.script.Why.{Why}
 use Rattle.faim_top.specs.declared.script.Why.TheVariants.{Shape, Value, Twice, Place, Limit, Ended, Size}

@@ -6,6 +6,7 @@ pub mod Report
 pub mod Replay
 pub mod Reading
 pub mod Posting
+pub mod Checks
 pub mod Ends
 pub mod Promises
 pub mod ExitCodes

@@ -1,5 +1,5 @@
 -- The lines of a text, and the words of a line (docs/FORMATS.md, "Scripts").
-use Rattle.std.specs.Prelude.{ℕ, zero, suc, ◌==◌, Bool, true, false, List, [], ◌∷◌, Option, Some, None, if◌then◌else◌}
+use Rattle.std.specs.Prelude.{ℕ, zero, suc, ◌==◌, Bool, List, [], ◌∷◌, Option, Some, None, if◌then◌else◌}
 
 abbrev pub is_line_end : ℕ → Bool
 is_line_end b = b == 10

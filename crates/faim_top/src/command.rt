@@ -4,6 +4,7 @@ ghost use Rattle.std.specs.Prelude.{◌≡◌};
 /// What the program is asked for.
 #[derive(Clone, Copy, Debug, PartialEq, Eq)]
 pub enum Command {
+    Check,
     Replay,
 }
 
@@ -11,11 +12,12 @@ impl Command {
     ghost use Rattle.std.specs.Prelude.{◌≡◌};
     ghost use Rattle.faim_top.specs.Words.{command_of, texts};
 
-    /// The command that the words are; none where they are no command.
+    /// The command that the words are; none where they are no command (docs/FORMATS.md, "Commands").
     pub fn read(words: &[String]) -> Option<Command>
         ensures { result ≡ command_of (texts words.now) }
     {
         match words {
+            [word] if word.as_str() == "check" => Some(Command::Check),
             [word] if word.as_str() == "replay" => Some(Command::Replay),
             _ => None,
         }

@@ -1,10 +1,8 @@
 // The values of words (docs/FORMATS.md, "Scripts").
 ghost use Rattle.std.specs.Prelude.{◌≡◌, ◌≤◌, ◌≤ℤ◌, pos, neg_ℤ, length, IfSome};
-ghost use Rattle.std.specs.List.{list_all};
-ghost use Rattle.faim_base.specs.Text.{is_digit};
 ghost use Rattle.faim_top.specs.Fields.{env_word, date_word, cutoff_word, endpoint_word, aba_word, is_plain_number, magnitude_word, cents_word, seq_word};
 
-use faim_base::{Aba, CycleDate, Endpoint, Seq, aba_check, digits};
+use faim_base::{Aba, CycleDate, Endpoint, Seq, aba_check, are_digits, digits, is_digit};
 
 // `T` for test, `P` for production.
 pub(crate) fn env_in(word: &[u8]) -> Option<u8>
@@ -104,16 +102,4 @@ fn is_plain_number(word: &[u8]) -> bool
         [digit] => is_digit(*digit),
         [first, _, rest @ ..] => *first != b'0' && are_digits(word) && rest.len() <= 10,
     }
-}
-
-fn are_digits(word: &[u8]) -> bool
-    ensures { result ≡ list_all is_digit word.now }
-{
-    word.iter().all(|b| is_digit(*b))
-}
-
-fn is_digit(b: u8) -> bool
-    ensures { result ≡ is_digit b }
-{
-    b.is_ascii_digit()
 }

@@ -1,7 +1,12 @@
-// The promises over whole runs.
+// The promises over whole runs, and what every input has. Each call does nothing: its contract is the law.
+ghost use Rattle.std.specs.Prelude.{◌≡◌, ℕ, List};
 ghost use Rattle.faim_top.specs.declared.script.Script.{Script};
+ghost use Rattle.faim_top.specs.declared.command.Command.{Command};
+ghost use Rattle.faim_top.specs.declared.status.Status.{Status};
+ghost use Rattle.faim_top.specs.Ends.{Answers, IsAnswered};
 ghost use Rattle.faim_top.specs.Promises.{KeepsPromises};
 
+use faim_message::{each_input_is_judged, one_refusal, spelled_is_not_refused};
 use faim_model::{
     numbered_in_order, other_text_is_turned, posted_once, turns_stay_lawful, verdict_stands,
 };
@@ -18,4 +23,14 @@ pub fn promises_kept()
     turns_stay_lawful();
     verdict_stands();
     other_text_is_turned();
+}
+
+/// Every input of a command, whatever its bytes, has an answer, and one alone: one status, and one text to be written.
+pub fn inputs_have_one_answer()
+    ensures some { (c : Command) (text : List ℕ) → (status : Status) × IsAnswered c status text }
+    ensures one { (c : Command) (text : List ℕ) (s t : Status) (a b : List ℕ) → Answers c text s a → Answers c text t b → (s ≡ t) × (a ≡ b) }
+{
+    each_input_is_judged();
+    spelled_is_not_refused();
+    one_refusal();
 }

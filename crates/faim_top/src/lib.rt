@@ -2,6 +2,7 @@
 #![tactic(auto)]
 
 mod accounts;
+mod answers;
 mod command;
 mod fields;
 mod laws;
@@ -19,7 +20,7 @@ mod top;
 mod turns;
 
 pub use command::Command;
-pub use laws::promises_kept;
+pub use laws::{inputs_have_one_answer, promises_kept};
 pub use outcome::{Balances, Closing, Counts, Outcome};
 pub use printing::{print_closing, print_outcome};
 pub use reader::read_script;

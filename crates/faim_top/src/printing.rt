@@ -1,13 +1,14 @@
 // What the report prints (docs/FORMATS.md, "The report").
-ghost use Rattle.std.specs.Prelude.{◌≡◌, ◌++◌, ◌∷◌, [], OnOk, OnErr};
+ghost use Rattle.std.specs.Prelude.{◌≡◌, ◌≢◌, ◌++◌, ◌∷◌, [], OnOk, OnErr};
 ghost use Rattle.std.specs.Fmt.{decimal, signed_decimal};
 ghost use Rattle.faim_base.specs.Calendar.{date_text};
 ghost use Rattle.faim_base.specs.Digits.{padded};
 ghost use Rattle.faim_top.specs.Report.{refusal_text, verdict_text, host_outcome_text, outcome_line, balance_line, count_line, closing_text, balance_lines, count_lines, why_text, fault_line};
+ghost use Rattle.faim_top.specs.Checks.{refusal_line};
 
 use crate::outcome::{Closing, Outcome};
 use crate::{ScriptFault, Why};
-use faim_base::{Aba, CycleDate, Endpoint, Imad, NoMemory, Reject, Seq, Verdict, padded};
+use faim_base::{Aba, CycleDate, Endpoint, Imad, NoMemory, Refused, Reject, Seq, Verdict, padded};
 use faim_model::HostOutcome;
 use std::alloc::Global;
 
@@ -50,6 +51,27 @@ pub(crate) fn print_fault(
     write_number(alloc, fault.line, out)?;
     out.push(b' ')?;
     write_why(fault.why, out)?;
+    out.push(b'\n')?;
+    Ok(())
+}
+
+// The line of a text that is no message.
+pub(crate) fn print_refused(alloc: Global, why: &Refused, out: &mut Vec<u8>) -> Result<(), NoMemory>
+    ensures line { OnOk result (out.new.items ≡ out.old.items ++ refusal_line why.now) }
+    ensures judged { OnOk result (why.now ≢ Refused.NoMemory) }
+{
+    match why {
+        Refused::Byte(place) => {
+            out.extend_from_slice(b"byte ")?;
+            write_number(alloc, *place as u64, out)?;
+        }
+        Refused::Cut => out.extend_from_slice(b"cut")?,
+        Refused::Missing(number) => {
+            out.extend_from_slice(b"missing ")?;
+            write_number(alloc, u64::from(number.get()), out)?;
+        }
+        Refused::NoMemory => return Err(NoMemory),
+    }
     out.push(b'\n')?;
     Ok(())
 }

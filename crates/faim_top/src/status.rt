@@ -3,10 +3,13 @@ ghost use Rattle.std.specs.Prelude.{◌≡◌};
 ghost use Rattle.faim_top.specs.ExitCodes.{code_of};
 
 use crate::ScriptFault;
+use faim_base::Refused;
 
 /// Why an input was refused.
 #[derive(Clone, Copy, Debug, PartialEq, Eq)]
 pub enum Reason {
+    /// The bytes are no message; never for want of memory.
+    Text(Refused),
     /// The text isn't a script.
     Script(ScriptFault),
 }

@@ -1,11 +1,9 @@
-// Reads all of the input, and writes all of an answer.
-ghost use Rattle.std.specs.Prelude.{◌≡◌, ◌⊎◌, ◌+◌, ◌<◌, ◌≤◌, drop, length, IfOk, OnOk, OnErr};
+// Reads an input, and writes all of an answer.
+ghost use Rattle.std.specs.Prelude.{◌≡◌, ◌⊎◌, ◌+◌, ◌<◌, ◌≤◌, ◌++◌, take, drop, length, Ok, Err, IfOk, OnOk, OnErr};
 ghost use Rattle.std.specs.Io.KnownBytes.{Appends, Consumes, IsAtEnd};
 ghost use Rattle.site_core.specs.Counts.{Rose};
-ghost use Rattle.faim_top.specs.Grammar.{size_limit};
-ghost use Rattle.faim_top.specs.Ends.{AppendsPart};
+ghost use Rattle.faim_top.specs.Ends.{AppendsPart, LosesAtMost};
 
-use crate::reader::SIZE_LIMIT;
 use faim_base::{Bytes, Failed, NoMemory};
 use site_core::{Sink, Source};
 use std::alloc::Global;
@@ -20,26 +18,48 @@ pub(crate) enum ReadEnd {
     NoMemory,
 }
 
-// All that the source has left, or more of it than a script may have.
-pub(crate) fn read_all<I: Source>(alloc: Global, input: &mut I) -> Result<Bytes, ReadEnd>
-    ensures all { IfOk result (λ b. Consumes (I.left input.old) (I.left input.new) b × (IsAtEnd (I.left input.new) ⊎ (size_limit < length b))) }
+// The bytes that the source gives until it ends, at most so many.
+pub(crate) fn read_up_to<I: Source>(
+    alloc: Global,
+    input: &mut I,
+    most: usize,
+) -> Result<Bytes, ReadEnd>
+    ensures all { IfOk result (λ b. Consumes (I.left input.old) (I.left input.new) b × (IsAtEnd (I.left input.new) ⊎ (length b ≡ most))) }
+    ensures few { LosesAtMost most (I.left input.old) (I.left input.new) }
     ensures later { I.read_faults input.old ≤ I.read_faults input.new }
     ensures failed { result ≡ Err ReadEnd.Failed → Rose (I.read_faults input.old) (I.read_faults input.new) }
+    ensures kept { (result ≡ Err ReadEnd.Failed → ⊥) → I.read_faults input.new ≡ I.read_faults input.old }
 {
     let mut all = Bytes::new(alloc);
     let mut buf = [0; CHUNK];
-    while all.as_slice().len() <= SIZE_LIMIT {
-        match input.read(&mut buf) {
-            Err(_) => return Err(ReadEnd::Failed),
+    while all.as_slice().len() < most {
+        let room = CHUNK.min(most - all.as_slice().len());
+        match read_piece(input, &mut buf[..room], &mut all) {
             Ok(0) => return Ok(all),
-            Ok(n) => {
-                if all.extend(&buf[..n]).is_err() {
-                    return Err(ReadEnd::NoMemory);
-                }
-            }
+            Ok(_) => {}
+            Err(end) => return Err(end),
         }
     }
     Ok(all)
+}
+
+// Appends what the source gives next, and answers how many bytes that are: none at its end.
+fn read_piece<I: Source>(input: &mut I, buf: &mut [u8], all: &mut Bytes) -> Result<usize, ReadEnd>
+    requires { 0 < length buf.old }
+    ensures given { IfOk result (λ n. Consumes (I.left input.old) (I.left input.new) (take n buf.new) × (all.new ≡ all.old ++ take n buf.new) × (length (take n buf.new) ≡ n) × (n ≤ length buf.old)) }
+    ensures end { result ≡ Ok 0 → IsAtEnd (I.left input.new) }
+    ensures few { LosesAtMost (length buf.old) (I.left input.old) (I.left input.new) }
+    ensures later { I.read_faults input.old ≤ I.read_faults input.new }
+    ensures failed { result ≡ Err ReadEnd.Failed → Rose (I.read_faults input.old) (I.read_faults input.new) }
+    ensures kept { (result ≡ Err ReadEnd.Failed → ⊥) → I.read_faults input.new ≡ I.read_faults input.old }
+{
+    match input.read(buf) {
+        Err(_) => Err(ReadEnd::Failed),
+        Ok(n) => match all.extend(&buf[..n]) {
+            Ok(()) => Ok(n),
+            Err(_) => Err(ReadEnd::NoMemory),
+        },
+    }
 }
 
 // What stands from a place on.

@@ -1,3 +1,4 @@
+mod checking;
 mod ends;
 mod playing;
 mod refusing;

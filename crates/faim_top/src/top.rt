@@ -1,19 +1,23 @@
 // The top call.
-ghost use Rattle.std.specs.Prelude.{◌≡◌, ◌⊎◌, ◌↔◌, ◌≤◌, IsNone, IsSome, IsSomeAnd, IsOk, IfSome, IfOk, Err};
+ghost use Rattle.std.specs.Prelude.{◌≡◌, ◌⊎◌, ◌↔◌, ◌≤◌, ◌+◌, IsNone, IsSomeAnd, IfSome, IfOk};
+ghost use Rattle.std.specs.Io.KnownBytes.{Keeps};
 ghost use Rattle.site_core.specs.Counts.{Rose};
-ghost use Rattle.faim_top.specs.declared.script.ScriptFault.{ScriptFault};
+ghost use Rattle.faim_top.specs.declared.status.Status.{Status as AnyStatus};
 ghost use Rattle.faim_top.specs.Words.{command_of, texts};
 ghost use Rattle.faim_top.specs.Grammar.{script_of};
-ghost use Rattle.faim_top.specs.Ends.{Ended, answer_text, answer_status};
+ghost use Rattle.faim_top.specs.Ends.{Ended, IsAnswered, LosesAtMost, limit_of};
 ghost use Rattle.faim_top.specs.Promises.{KeepsPromises};
 
-use crate::play::report;
-use crate::printing::print_fault;
-use crate::streams::{ReadEnd, read_all, write_all};
-use crate::{Command, Reason, ScriptRefused, Status, promises_kept, read_script};
-use faim_base::NoMemory;
+use crate::answers::answer_to;
+use crate::reader::SIZE_LIMIT;
+use crate::streams::{ReadEnd, read_up_to, write_all};
+use crate::{Command, Status, promises_kept};
+use faim_message::{one_refusal, spelled_is_not_refused, spellings_are_short};
 use site_core::{Sink, Source};
 use std::alloc::Global;
+
+// How many bytes the longest message has.
+const LONGEST_MESSAGE: usize = 4_234;
 
 /// Does all that the program does: what the words ask for, from the input to what is written (docs/FORMATS.md,
 /// "Commands").
@@ -23,24 +27,28 @@ pub fn run<I: Source, O: Sink>(
     input: &mut I,
     out: &mut O,
 ) -> Status
+    // Other words are no command: nothing is read or written.
     ensures usage { (result ≡ Status.Usage) ↔ IsNone (command_of (texts words.now)) }
+    ensures untouched { result ≡ Status.Usage → Keeps (I.left input.old) (I.left input.new) × Keeps (O.written out.old) (O.written out.new) }
 
     // What each status says of what was read and written.
-    ensures ended { Ended result (I.left input.old) (I.left input.new) (O.written out.old) (O.written out.new) }
+    ensures ended { IfSome (command_of (texts words.now)) (λ c. Ended c result (I.left input.old) (I.left input.new) (O.written out.old) (O.written out.new)) }
 
-    // A fault comes only where that object counted one in this call.
+    // No more is read than one byte beyond what the command takes.
+    ensures few { IfSome (command_of (texts words.now)) (λ c. LosesAtMost (limit_of c + 1) (I.left input.old) (I.left input.new)) }
+
+    // A fault comes only where that object counted one in this call, and with any other status none was counted.
     ensures read { result ≡ Status.ReadFault → Rose (I.read_faults input.old) (I.read_faults input.new) }
     ensures write { result ≡ Status.WriteFault → Rose (O.write_faults out.old) (O.write_faults out.new) }
+    ensures read_kept { (result ≡ Status.ReadFault → ⊥) → I.read_faults input.new ≡ I.read_faults input.old }
+    ensures write_kept { (result ≡ Status.WriteFault → ⊥) → O.write_faults out.new ≡ O.write_faults out.old }
     ensures read_later { I.read_faults input.old ≤ I.read_faults input.new }
     ensures write_later { O.write_faults out.old ≤ O.write_faults out.new }
 
-    // Where no count rose, a script is done and any other text is refused, unless memory runs out.
-    ensures complete { IsSome (command_of (texts words.now)) → IsSomeAnd (I.left input.old) (λ text. IsOk (script_of text))
+    // Where no count rose, the status is that of the command's answer, unless memory runs out.
+    ensures complete { (status : AnyStatus) → IfSome (command_of (texts words.now)) (λ c. IsSomeAnd (I.left input.old) (IsAnswered c status)
         → (Rose (I.read_faults input.old) (I.read_faults input.new) → ⊥) → (Rose (O.write_faults out.old) (O.write_faults out.new) → ⊥)
-        → (result ≡ Status.Done) ⊎ (result ≡ Status.NoMemory) }
-    ensures refuses { (f : ScriptFault) → IsSome (command_of (texts words.now)) → IsSomeAnd (I.left input.old) (λ text. script_of text ≡ Err f)
-        → (Rose (I.read_faults input.old) (I.read_faults input.new) → ⊥) → (Rose (O.write_faults out.old) (O.write_faults out.new) → ⊥)
-        → (result ≡ Status.Refused (Reason.Script f)) ⊎ (result ≡ Status.NoMemory) }
+        → (result ≡ status) ⊎ (result ≡ Status.NoMemory)) }
 
     // The list of entries, after each event of the script.
     ensures promises { result ≡ Status.Done → IfSome (I.left input.old) (λ text. IfOk (script_of text) KeepsPromises) }
@@ -48,31 +56,38 @@ pub fn run<I: Source, O: Sink>(
     promises_kept();
     match Command::read(words) {
         None => Status::Usage,
-        Some(Command::Replay) => replay(alloc, input, out),
+        Some(command) => carry_out(alloc, command, input, out),
     }
 }
 
-// Reads a script to its end, plays it, and writes its report.
-fn replay<I: Source, O: Sink>(alloc: Global, input: &mut I, out: &mut O) -> Status
-    ensures some { result ≡ Status.Usage → ⊥ }
-    ensures ended { Ended result (I.left input.old) (I.left input.new) (O.written out.old) (O.written out.new) }
+// Reads the input of a command, and writes the answer to it.
+fn carry_out<I: Source, O: Sink>(
+    alloc: Global,
+    command: Command,
+    input: &mut I,
+    out: &mut O,
+) -> Status
+    ensures ended { Ended command result (I.left input.old) (I.left input.new) (O.written out.old) (O.written out.new) }
+    ensures few { LosesAtMost (limit_of command + 1) (I.left input.old) (I.left input.new) }
     ensures read { result ≡ Status.ReadFault → Rose (I.read_faults input.old) (I.read_faults input.new) }
     ensures write { result ≡ Status.WriteFault → Rose (O.write_faults out.old) (O.write_faults out.new) }
+    ensures read_kept { (result ≡ Status.ReadFault → ⊥) → I.read_faults input.new ≡ I.read_faults input.old }
+    ensures write_kept { (result ≡ Status.WriteFault → ⊥) → O.write_faults out.new ≡ O.write_faults out.old }
     ensures read_later { I.read_faults input.old ≤ I.read_faults input.new }
     ensures write_later { O.write_faults out.old ≤ O.write_faults out.new }
-    ensures complete { IsSomeAnd (I.left input.old) (λ text. IsOk (script_of text))
+    ensures complete { (status : AnyStatus) → IsSomeAnd (I.left input.old) (IsAnswered command status)
         → (Rose (I.read_faults input.old) (I.read_faults input.new) → ⊥) → (Rose (O.write_faults out.old) (O.write_faults out.new) → ⊥)
-        → (result ≡ Status.Done) ⊎ (result ≡ Status.NoMemory) }
-    ensures refuses { (f : ScriptFault) → IsSomeAnd (I.left input.old) (λ text. script_of text ≡ Err f)
-        → (Rose (I.read_faults input.old) (I.read_faults input.new) → ⊥) → (Rose (O.write_faults out.old) (O.write_faults out.new) → ⊥)
-        → (result ≡ Status.Refused (Reason.Script f)) ⊎ (result ≡ Status.NoMemory) }
+        → (result ≡ status) ⊎ (result ≡ Status.NoMemory) }
 {
-    let text = match read_all(alloc, input) {
+    spellings_are_short();
+    spelled_is_not_refused();
+    one_refusal();
+    let text = match read_up_to(alloc, input, most_of(command)) {
         Ok(text) => text,
         Err(ReadEnd::Failed) => return Status::ReadFault,
         Err(ReadEnd::NoMemory) => return Status::NoMemory,
     };
-    let (answer, status) = match answer(alloc, text.as_slice()) {
+    let (answer, status) = match answer_to(alloc, command, text.as_slice()) {
         Ok(answer) => answer,
         Err(_) => return Status::NoMemory,
     };
@@ -82,17 +97,12 @@ fn replay<I: Source, O: Sink>(alloc: Global, input: &mut I, out: &mut O) -> Stat
     }
 }
 
-// What is to be written of a text, and the status once it is written.
-fn answer(alloc: Global, text: &[u8]) -> Result<(Vec<u8>, Status), NoMemory>
-    ensures { IfOk result (λ a. (a.0.items ≡ answer_text (script_of text.now)) × (a.1 ≡ answer_status (script_of text.now))) }
+// How many bytes are enough to answer: one more than the command takes.
+fn most_of(command: Command) -> usize
+    ensures { result ≡ limit_of command + 1 }
 {
-    match read_script(alloc, text) {
-        Ok(script) => Ok((report(alloc, script)?, Status::Done)),
-        Err(ScriptRefused::Fault(fault)) => {
-            let mut line = Vec::new(alloc);
-            print_fault(alloc, &fault, &mut line)?;
-            Ok((line, Status::Refused(Reason::Script(fault))))
-        }
-        Err(ScriptRefused::NoMemory) => Err(NoMemory),
+    match command {
+        Command::Check => LONGEST_MESSAGE + 1,
+        Command::Replay => SIZE_LIMIT + 1,
     }
 }

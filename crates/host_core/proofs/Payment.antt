@@ -1,6 +1,6 @@
 -- A payment on the day of two banks, as the first entry of its host.
-use Rattle.std.proofs.Common.{◌≡◌, ℕ, ◌≤◌, List, [], ◌∷◌, refl, sym, subst, inl, lit≤}
-use Rattle.std.specs.Prelude.{codes, pos, false, Ok}
+use Rattle.std.proofs.Common.{◌≡◌, ℕ, List, [], ◌∷◌, refl, sym, subst, inl, lit≤}
+use Rattle.std.specs.Prelude.{codes, pos, false}
 use Rattle.faim_base.specs.declared.judgement.Head.{Head}
 use Rattle.faim_base.specs.declared.judgement.Verdict.TheVariants.{Taken}
 use Rattle.faim_base.specs.Calendar.{days_of_months, days_of_years}

@@ -1,6 +1,6 @@
 -- One more entry, and what is given again.
-use Rattle.std.proofs.Common.{◌≡◌, ◌⊎◌, ⊎_elim, ℕ, ◌+◌, ◌≤◌, Bool, true, false, List, [], ◌∷◌, ◌++◌, length, take, map, filter, sym, ◌∙◌, ap, refl, arith, append-nil}
-use Rattle.std.specs.Prelude.{IsTrue, if◌then◌else◌}
+use Rattle.std.proofs.Common.{◌≡◌, ◌⊎◌, ⊎_elim, ℕ, ◌+◌, ◌≤◌, Bool, true, false, List, [], ◌∷◌, ◌++◌, length, take, filter, sym, ◌∙◌, ap, refl, arith, append-nil}
+use Rattle.std.specs.Prelude.{IsTrue}
 use Rattle.std.specs.List.{list_any}
 use Rattle.std.proofs.lemmas.List.Elements.{filter-append}
 use Rattle.std.proofs.lemmas.List.{take-append-le, take_all, length-take, length-map, map-append, take-map}
@@ -9,7 +9,7 @@ use Rattle.faim_base.specs.declared.judgement.Verdict.TheVariants.{Taken, Refuse
 use Rattle.host_ledger.specs.declared.config.Config.{Config}
 use Rattle.host_ledger.specs.declared.entries.Entry.{Entry}
 use Rattle.host_ledger.specs.declared.entries.Entry.TheVariants.{Posted, Roll}
-use Rattle.faim_model.specs.Outputs.{Item, item_of, one_if, count_under, places_of, retrieved, is_from, outputs}
+use Rattle.faim_model.specs.Outputs.{Item, item_of, count_under, places_of, retrieved, is_from, outputs}
 use Rattle.host_core.specs.State.{is_posted}
 
 pub count_of_both : (date : ℕ) (xs ys : List Item) → count_under date (xs ++ ys) ≡ count_under date xs + count_under date ys

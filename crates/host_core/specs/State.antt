@@ -1,5 +1,5 @@
 -- What a host knows: its configuration and its entries, the newest first.
-use Rattle.std.specs.Prelude.{List, [], ◌∷◌, Bool, true, false, ◌&&◌, Option, Some, None}
+use Rattle.std.specs.Prelude.{List, [], ◌∷◌, Bool, true, false, Option, Some, None}
 use Rattle.std.specs.List.{list_all}
 use Rattle.faim_base.specs.declared.ids.OutPos.{OutPos}
 use Rattle.faim_model.specs.Outputs.{Item}

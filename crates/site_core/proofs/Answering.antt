@@ -1,5 +1,5 @@
 -- What one call of a site in memory says of what it tells.
-use Rattle.std.proofs.Common.{◌≡◌, ◌⊎◌, inl, inr, ⊎_elim, ℕ, ◌+◌, ◌-◌, ◌^◌, ◌<◌, ◌≤◌, min, Bool, true, false, List, [], ◌∷◌, ◌++◌, length, refl, sym, ◌∙◌, ap, subst, Ok, Err, arith, length-append}
+use Rattle.std.proofs.Common.{◌≡◌, ◌⊎◌, inl, inr, ⊎_elim, ◌+◌, ◌-◌, ◌^◌, ◌<◌, ◌≤◌, min, true, List, [], ◌∷◌, ◌++◌, length, refl, sym, ◌∙◌, ap, subst, Ok, Err, arith, length-append}
 use Rattle.std.specs.Prelude.{◌↔◌, IsTrue}
 use Rattle.site_core.specs.Counts.{Rose}
 use Rattle.site_core.specs.declared.counts.Counts.{Counts}
@@ -7,7 +7,7 @@ use Rattle.site_core.specs.declared.counts.Faults.{Faults}
 use Rattle.site_core.specs.declared.counts.Turn.{Turn}
 use Rattle.site_core.specs.declared.counts.Turn.TheVariants.{Goes, Stops, Fails}
 use Rattle.site_core.specs.Log.{Act, okays}
-use Rattle.site_core.specs.Told.{Told, Part, unarmed, other, Counted, Calm, HasOneReason, CallsOnce}
+use Rattle.site_core.specs.Told.{Told, Part, unarmed, Counted, CallsOnce}
 use Rattle.site_core.specs.Told.Part.{Disk, Line}
 use Rattle.site_core.specs.Turns.{told_of, Begins}
 

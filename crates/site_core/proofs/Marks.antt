@@ -1,7 +1,7 @@
 -- Images in which all that is pending is one byte.
 use Rattle.std.proofs.Common.{◌≡◌, ◌⊎◌, inl, inr, ⊎_elim, ℕ, ◌+◌, ◌-◌, ◌<◌, ◌≤◌, min, List, [], ◌∷◌, ◌++◌, length, take, drop, get_or, replicate, sym, ◌∙◌, ap, refl, arith, append_assoc, length-append, length-take, length-drop}
 use Rattle.std.proofs.lemmas.Bool.{cases_lt}
-use Rattle.std.proofs.lemmas.List.{ext_get_or, get_or_append_left, get_or-append_right, get_or-take, get_or-drop, get_or-replicate, replicate-append-replicate, take_all, append-nil, length-replicate}
+use Rattle.std.proofs.lemmas.List.{ext_get_or, get_or_append_left, get_or-append_right, get_or-take, get_or-drop, get_or-replicate, replicate-append-replicate, take_all, length-replicate}
 use Rattle.site_core.specs.declared.patch.Patch.{Patch}
 use Rattle.site_core.specs.Image.{put}
 use Rattle.site_core.specs.Log.{Act, reads}

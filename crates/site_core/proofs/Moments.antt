@@ -1,5 +1,5 @@
 -- The moments of device calls.
-use Rattle.std.proofs.Common.{◌≡◌, ◌⊎◌, inl, inr, ⊎_elim, ℕ, ◌≤◌, Bool, List, [], ◌∷◌, ◌++◌, length, take, sym, refl, ◌∙◌, arith, length-append, length-take}
+use Rattle.std.proofs.Common.{◌≡◌, ◌⊎◌, inl, inr, ⊎_elim, ℕ, ◌≤◌, Bool, List, [], ◌∷◌, ◌++◌, length, take, refl, ◌∙◌, arith, length-append, length-take}
 use Rattle.site_core.specs.Log.{Act, reads, sent, firm, Leaves, LeavesImage, Within, Left, NothingPending}
 use Rattle.site_core.specs.Log.Act.{Asked, Wrote, WriteFailed, Synced, SyncFailed, Sent, SendFailed, Restarted}
 use Rattle.site_core.proofs.Images.{put_long, torn_within}

@@ -1,10 +1,10 @@
 -- Device calls one after another.
-use Rattle.std.proofs.Common.{◌≡◌, ◌⊎◌, inl, inr, ⊎_elim, ℕ, ◌+◌, ◌<◌, ◌≤◌, List, [], ◌∷◌, ◌++◌, length, refl, sym, ◌∙◌, ap, Bool, true, false, Option, Some, None, append_assoc, arith}
+use Rattle.std.proofs.Common.{◌≡◌, ◌⊎◌, inl, inr, ⊎_elim, ℕ, ◌+◌, ◌<◌, ◌≤◌, List, [], ◌∷◌, ◌++◌, refl, sym, ◌∙◌, ap, Bool, true, false, Option, Some, None, append_assoc, arith}
 use Rattle.std.specs.Prelude.{IsTrue, IfSome}
 use Rattle.std.proofs.lemmas.Bool.{cases_lt}
 use Rattle.site_core.specs.Log.{Act, okays}
 use Rattle.site_core.specs.Log.Act.{Asked, Wrote, WriteFailed, Synced, SyncFailed, Sent, SendFailed, Restarted}
-use Rattle.site_core.specs.Told.{Told, Part, unarmed, Goes, Counted, Calm, Ran, HasReason, Because}
+use Rattle.site_core.specs.Told.{Told, Part, unarmed, Goes, Counted, Ran, HasReason, Because}
 use Rattle.site_core.specs.Told.Part.{Disk, Line}
 
 -- a weaker fact of the same calls

@@ -1,6 +1,5 @@
 -- What a site in memory comes back with is what a stop may leave.
-use Rattle.std.proofs.Common.{◌≡◌, ◌⊎◌, inl, inr, ⊎_elim, ℕ, ◌%◌, ◌≤◌, ◌==◌, Bool, true, false, List, [], ◌∷◌, length, take, replicate, sym, ◌∙◌, ap, refl, subst, cond, arith}
-use Rattle.std.proofs.lemmas.Bool.{cases_eq}
+use Rattle.std.proofs.Common.{◌≡◌, ℕ, ◌%◌, ◌≤◌, ◌==◌, Bool, true, false, List, [], ◌∷◌, length, replicate, sym, ◌∙◌, ap, refl, cond, arith}
 use Rattle.std.proofs.lemmas.List.{length-replicate, take_all}
 use Rattle.site_core.specs.declared.past.Call.{Call}
 use Rattle.site_core.specs.declared.past.Call.TheVariants as stored
@@ -8,7 +7,7 @@ use Rattle.site_core.specs.declared.patch.Patch.{Patch}
 use Rattle.site_core.specs.Image.{put, Torn}
 use Rattle.site_core.specs.Log.{Act, reads, firm, LeavesImage}
 use Rattle.site_core.specs.Log.Act.{Asked, Wrote, WriteFailed, Synced, SyncFailed, Sent, SendFailed, Restarted}
-use Rattle.site_core.specs.Memory.{acts_of, patches, undone, filled_all, torn_up, IsPlain}
+use Rattle.site_core.specs.Memory.{acts_of, patches, filled_all, torn_up, IsPlain}
 use Rattle.site_core.specs.Tears.{pending, dropped, completed, marked, after_stop}
 use Rattle.site_core.proofs.Images.{put_long, torn_within}
 use Rattle.site_core.proofs.Marks.{marked_log}
@@ -87,3 +86,28 @@ after_tear tear log ps image p i plain =
     ∙ ap (λ (l : List ℕ). cond (tear == 0) l (cond (tear == 1) (reads log) (filled_all (tear % 256) (patches log) (reads log)))) (undone_log log)
     ∙ ap (λ (l : List ℕ). cond (tear == 0) (dropped log) (cond (tear == 1) l (filled_all (tear % 256) (patches log) (reads log)))) (sym (completed_reads log plain))
     ∙ ap (λ (l : List ℕ). cond (tear == 0) (dropped log) (cond (tear == 1) (completed log) l)) (marked_log (tear % 256) log plain)
+
+-- where no write is pending the log makes of a stop what reads
+module _ (filler : ℕ) (f : List ℕ → List ℕ) where
+  pending_none : (log : List Act) → patches log ≡ [] → pending filler f log ≡ reads log
+  pending_none [] none = refl
+  pending_none (Synced ∷ log) none = refl
+  pending_none (Restarted image ∷ log) none = refl
+  pending_none (Wrote at bytes ∷ log) none = cc
+  pending_none (WriteFailed at bytes found ∷ log) none = cc
+  pending_none (Asked ∷ log) none = pending_none log none
+  pending_none (SyncFailed ∷ log) none = pending_none log none
+  pending_none (Sent frame ∷ log) none = pending_none log none
+  pending_none (SendFailed frame kept ∷ log) none = pending_none log none
+
+all_one : (a b : Bool) (x y z w : List ℕ) → x ≡ w → y ≡ w → z ≡ w → cond a x (cond b y z) ≡ w
+all_one true b x y z w p q r = p
+all_one false true x y z w p q r = q
+all_one false false x y z w p q r = r
+
+pub after_none : (tear : ℕ) (log : List Act) → patches log ≡ [] → after_stop tear log ≡ reads log
+after_none tear log none =
+    all_one (tear == 0) (tear == 1) (dropped log) (completed log) (marked (tear % 256) log) (reads log)
+    (pending_none 0 (λ bytes. []) log none)
+    (pending_none 0 (λ bytes. bytes) log none)
+    (pending_none (tear % 256) (λ bytes. replicate (length bytes) (tear % 256)) log none)

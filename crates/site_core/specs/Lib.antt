@@ -1,3 +1,4 @@
+pub mod Choices
 pub mod Counts
 pub mod Cuts
 pub mod Image

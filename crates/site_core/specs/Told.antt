@@ -1,5 +1,5 @@
 -- What a site tells of itself, and how device calls change it.
-use Rattle.std.specs.Prelude.{◌≡◌, ◌⊎◌, ◌↔◌, ℕ, ◌+◌, ◌-◌, ◌^◌, ◌≤◌, ◌<◌, min, List, [], ◌∷◌, ◌++◌, length, take, drop, Bool, true, false, IsTrue, MatchBool, Option, Some, None, Result, OnOk, OnErr, MatchResult, is_ok}
+use Rattle.std.specs.Prelude.{◌≡◌, ◌⊎◌, ◌↔◌, ℕ, ◌+◌, ◌-◌, ◌^◌, ◌≤◌, ◌<◌, min, List, [], ◌∷◌, ◌++◌, length, take, drop, Bool, false, IsTrue, MatchBool, Option, Some, None, Result, OnOk, OnErr, MatchResult, is_ok}
 use Rattle.site_core.specs.Counts.{Rose}
 use Rattle.site_core.specs.Log.{Act, okays, LeavesImage, NothingPending}
 use Rattle.site_core.specs.Log.Act.{Asked, Wrote, WriteFailed, Synced, SyncFailed, Sent, SendFailed, Restarted}

@@ -1,5 +1,5 @@
 -- What the numbers of a site in memory say of one call.
-use Rattle.std.specs.Prelude.{◌≡◌, ◌⊎◌, ◌↔◌, ℕ, ◌+◌, ◌-◌, ◌^◌, ◌<◌, ◌≤◌, min, true, false, IsTrue, List}
+use Rattle.std.specs.Prelude.{◌≡◌, ◌⊎◌, ◌↔◌, ◌+◌, ◌-◌, ◌^◌, ◌<◌, ◌≤◌, min, true, false, IsTrue, List}
 use Rattle.site_core.specs.Counts.{Rose}
 use Rattle.site_core.specs.declared.counts.Counts.{Counts}
 use Rattle.site_core.specs.declared.counts.Faults.{Faults}

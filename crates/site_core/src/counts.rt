@@ -1,8 +1,8 @@
 // The numbers that a site in memory keeps of its calls.
-ghost use Rattle.std.specs.Prelude.{◌≡◌, ◌⊎◌, ◌+◌, ◌^◌, ◌-◌, ◌≤◌, false, true, IsTrue, Contains, IsErr};
+ghost use Rattle.std.specs.Prelude.{◌≡◌, ◌⊎◌, ◌+◌, ◌^◌, ◌-◌, ◌<◌, ◌≤◌, false, true, IsTrue, Contains, IsErr};
 ghost use Rattle.site_core.specs.Counts.{Rose};
 ghost use Rattle.site_core.specs.Turns.{Begins};
-ghost use Rattle.site_core.specs.declared.counts.Turn.TheVariants.{Goes};
+ghost use Rattle.site_core.specs.declared.counts.Turn.TheVariants.{Goes, Stops};
 
 use crate::memory_source::is_listed;
 
@@ -65,6 +65,7 @@ pub(crate) fn begin(counts: &mut Counts, faults: &mut Faults, fails: &[usize]) -
     ensures disarmed { IsTrue counts.new.stopped → counts.new.armed ≡ 0 }
     ensures begins { Begins result counts.old counts.new faults.old faults.new }
     ensures listed { Contains fails.now (counts.old.made + 1) → result ≡ Goes → ⊥ }
+    ensures reached { counts.old.stops < counts.new.stops → result ≡ Stops }
     ensures unlisted { (result ≡ Goes → ⊥) → Contains fails.now (counts.old.made + 1) ⊎ ((counts.old.made ≡ 2 ^ 64 - 1) ⊎ IsTrue counts.new.stopped) }
 {
     if counts.made == u64::MAX {

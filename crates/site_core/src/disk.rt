@@ -68,6 +68,7 @@ pub(crate) fn come_back(past: &mut Past, image: &mut Vec<u8>, over: &mut Vec<Pat
     ensures same { image.new.items ≡ reads past.new }
     ensures covers { reverse over.new.items ≡ patches past.new }
     ensures trace { (past.new ≡ Restarted (after_stop tear past.old) ∷ past.old) ⊎ ((past.new ≡ past.old) × (patches past.old ≡ [])) }
+    ensures image { reads past.new ≡ after_stop tear past.old }
 {
     if over.is_empty() {
         return;

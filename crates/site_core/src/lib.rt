@@ -4,9 +4,11 @@
 mod counts;
 mod disk;
 mod laws;
+mod memory_calls;
 mod memory_sink;
 mod memory_site;
 mod memory_source;
+mod memory_stops;
 mod past;
 mod patch;
 mod site;

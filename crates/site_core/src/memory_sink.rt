@@ -24,6 +24,8 @@ impl MemSink {
         ensures written { ⟦<MemSink as Sink>⟧.written result ≡ Some [] }
         ensures faults { ⟦<MemSink as Sink>⟧.write_faults result ≡ 0 }
         ensures lacks { result.lacks ≡ 0 }
+        ensures fails { result.fails ≡ fails }
+        ensures calls { result.calls ≡ 0 }
     {
         MemSink {
             bytes: Bytes::new(alloc),

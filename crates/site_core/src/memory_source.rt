@@ -25,6 +25,9 @@ impl MemSource {
     pub fn new(bytes: Bytes, cuts: Places, fails: Places) -> MemSource
         ensures left { ⟦<MemSource as Source>⟧.left result ≡ Some bytes }
         ensures faults { ⟦<MemSource as Source>⟧.read_faults result ≡ 0 }
+        ensures cuts { result.cuts ≡ cuts }
+        ensures fails { result.fails ≡ fails }
+        ensures calls { result.calls ≡ 0 }
     {
         MemSource {
             bytes,

@@ -1,5 +1,5 @@
 -- From the calls of an append to what a stop at any moment of it may leave.
-use Rattle.std.proofs.Common.{◌≡◌, ◌⊎◌, inl, inr, ⊎_elim, ℕ, ◌+◌, ◌-◌, ◌^◌, ◌≤◌, List, [], ◌∷◌, ◌++◌, length, sym, ◌∙◌, ap, subst, append_assoc, true, false, Ok, Err, Result, Option, Some, None, arith, length-append, refl}
+use Rattle.std.proofs.Common.{◌≡◌, ◌⊎◌, inl, inr, ⊎_elim, ℕ, ◌+◌, ◌-◌, ◌^◌, ◌≤◌, List, [], ◌∷◌, ◌++◌, length, sym, ◌∙◌, ap, subst, append_assoc, true, false, Ok, Err, Result, Option, arith, length-append}
 use Rattle.std.specs.List.{All}
 use Rattle.std.proofs.lemmas.List.Elements.{All-push}
 use Rattle.std.specs.Result.{IsErr}
@@ -9,7 +9,7 @@ use Rattle.site_core.specs.Told.{Told, Goes, Ran}
 use Rattle.site_core.proofs.Moments.{only_reads, synced}
 use Rattle.site_core.proofs.Runs.{goes_nowhere}
 use Rattle.torn_journal.specs.declared.faults.AppendFault.{AppendFault}
-use Rattle.torn_journal.specs.Append.{secured, IsBrokenOff, IsAppend, IsAppendBrokenOff, Adds, IsBeforeOrAfter, KeepsOrAdds, Appends}
+use Rattle.torn_journal.specs.Append.{secured, IsBrokenOff, IsAppend, IsAppendBrokenOff, Adds, IsBeforeOrAfter, Appends}
 use Rattle.torn_journal.specs.Journal.{framed_of, front_of, tail_of, open_gate, IsPayload, IsJournal}
 use Rattle.torn_journal.proofs.Gates.{HasGate, HasRecord, shut_gate, opened_gate, some_gate, tail_of-push}
 use Rattle.torn_journal.proofs.Steps.{first_left, second_left, done_left, reads_done}

@@ -1,5 +1,5 @@
 -- Questions to a site, one after the other, and what they say of the image.
-use Rattle.std.proofs.Common.{◌≡◌, ◌≢◌, ◌⊎◌, inl, inr, ⊎_elim, ℕ, zero, suc, ◌+◌, ◌-◌, ◌*◌, ◌<◌, ◌≤◌, min, Bool, true, false, nat_le, List, [], ◌∷◌, ◌++◌, length, take, drop, get_or, replicate, refl, sym, ◌∙◌, ap, subst, Ok, Err, Result, arith, append_assoc, take-append-drop, length-append, length-take, length-drop}
+use Rattle.std.proofs.Common.{◌≡◌, inr, ⊎_elim, ℕ, zero, suc, ◌+◌, ◌<◌, ◌≤◌, min, Bool, true, false, nat_le, List, [], ◌∷◌, ◌++◌, length, take, drop, get_or, replicate, refl, sym, ◌∙◌, ap, subst, Ok, Err, Result, arith, append_assoc, take-append-drop, length-take, length-drop}
 use Rattle.std.specs.Prelude.{IsErrAnd, IfOk, ◌↔◌, IsTrue}
 use Rattle.std.specs.Int.{to_be_bytes, from_be_bytes, w32}
 use Rattle.std.proofs.lemmas.Bool.{cases_lt, lt-leb, le-leb}
@@ -7,7 +7,7 @@ use Rattle.std.proofs.lemmas.Nat.{be_bytes_4, from_be_bytes-to_be_bytes_4}
 use Rattle.std.proofs.lemmas.List.{replicate-append-replicate, take_all, drop-drop}
 use Rattle.site_core.specs.Log.{Act, reads, sent}
 use Rattle.site_core.specs.Log.Act.{Asked}
-use Rattle.site_core.specs.Told.{Told, Asks, IsRead, Ran}
+use Rattle.site_core.specs.Told.{Told, Asks, IsRead}
 use Rattle.site_core.proofs.Runs.{ran_as, ran_on, ran_none}
 use Rattle.torn_journal.specs.declared.faults.ResumeFault.{ResumeFault}
 use Rattle.torn_journal.specs.declared.faults.ResumeFault.TheVariants as resume_faults

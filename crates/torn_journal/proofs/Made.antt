@@ -1,5 +1,5 @@
 -- What the calls that make a journal leave.
-use Rattle.std.proofs.Common.{◌≡◌, inl, inr, ℕ, ◌+◌, ◌<◌, ◌≤◌, List, [], ◌∷◌, ◌++◌, length, take, drop, refl, sym, ◌∙◌, ap, subst, true, false, Ok, Err, Result, arith, append_assoc, length-append}
+use Rattle.std.proofs.Common.{◌≡◌, inr, ℕ, ◌+◌, ◌<◌, List, [], ◌∷◌, ◌++◌, length, refl, sym, ◌∙◌, ap, subst, true, false, Ok, Err, Result, arith, length-append}
 use Rattle.std.proofs.lemmas.List.{append-nil, drop_all}
 use Rattle.std.proofs.lemmas.List.Elements.{All-nil, All-push}
 use Rattle.std.specs.Int.{to_be_bytes, w32}
@@ -9,14 +9,13 @@ use Rattle.site_core.specs.Image.{put}
 use Rattle.site_core.specs.Log.{Act, reads, sent, NothingPending}
 use Rattle.site_core.specs.Log.Act.{Asked, Wrote, Synced}
 use Rattle.site_core.specs.Told.{Told, Ran, Asks}
-use Rattle.site_core.proofs.Images.{put_some}
 use Rattle.site_core.proofs.Moments.{synced}
 use Rattle.site_core.proofs.Runs.{ran_on}
 use Rattle.torn_journal.specs.declared.faults.CreateFault.{CreateFault}
 use Rattle.torn_journal.specs.declared.faults.CreateFault.TheVariants.{SiteFault}
 use Rattle.torn_journal.specs.Append.{secured, IsBrokenOff, Secures}
 use Rattle.torn_journal.specs.Create.{first_image, IsCreateBrokenOff, HasCreated, Creates}
-use Rattle.torn_journal.specs.Journal.{header, record_of, front_of, tail_of, IsPayload, IsJournal}
+use Rattle.torn_journal.specs.Journal.{header, record_of, front_of, IsPayload, IsJournal}
 
 empty_list : (xs : List ℕ) → length xs ≡ 0 → xs ≡ []
 empty_list [] none = refl

@@ -1,16 +1,14 @@
 -- What a sync and questions behind it leave.
-use Rattle.std.proofs.Common.{◌≡◌, ◌⊎◌, inl, inr, ⊎_elim, ℕ, zero, suc, ◌+◌, ◌*◌, ◌≤◌, Bool, true, false, List, [], ◌∷◌, ◌++◌, length, replicate, refl, sym, ◌∙◌, ap, subst, Ok, Err, Result, Option, Some, None, arith, append_assoc, length-append}
-use Rattle.std.specs.Prelude.{IfSome, MatchBool, IsErrAnd}
+use Rattle.std.proofs.Common.{◌≡◌, ◌⊎◌, inl, inr, ⊎_elim, ℕ, zero, suc, ◌+◌, ◌*◌, ◌≤◌, Bool, true, false, List, [], ◌∷◌, ◌++◌, length, replicate, refl, sym, ◌∙◌, ap, subst, Ok, Err, Option, Some, None, arith, length-append}
+use Rattle.std.specs.Prelude.{IfSome}
 use Rattle.std.proofs.lemmas.List.{length-replicate}
 use Rattle.site_core.specs.Log.{Act, reads, sent, okays, LeavesImage, Left, NothingPending}
 use Rattle.site_core.specs.Log.Act.{Asked, Synced, SyncFailed}
-use Rattle.site_core.specs.Told.{Told, Goes, Syncs, IsSync, Ran}
+use Rattle.site_core.specs.Told.{Told, Goes, Syncs, IsSync}
 use Rattle.site_core.proofs.Moments.{only_reads, quiet_on, synced, still_asked, still_unsynced}
 use Rattle.site_core.proofs.Runs.{ran_as, ran_on}
-use Rattle.torn_journal.specs.declared.faults.ResumeFault.{ResumeFault}
-use Rattle.torn_journal.specs.declared.faults.ResumeFault.TheVariants.{SiteFault}
 use Rattle.torn_journal.specs.Journal.{IsJournal}
-use Rattle.torn_journal.specs.Resume.{Finds, IsLooking, HasLooked, Walks, no_fault}
+use Rattle.torn_journal.specs.Resume.{Finds, IsLooking, HasLooked, Walks}
 use Rattle.torn_journal.proofs.Looking.{IsAsking, reads_asked, sent_asked}
 
 okays_asked : (n : ℕ) → okays (replicate n Asked) ≡ n

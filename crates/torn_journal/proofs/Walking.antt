@@ -1,20 +1,16 @@
 -- How far a journal was read.
-use Rattle.std.proofs.Common.{◌≡◌, ◌≢◌, ◌⊎◌, inl, inr, ⊎_elim, ℕ, ◌+◌, ◌-◌, ◌*◌, ◌^◌, ◌<◌, ◌≤◌, Bool, true, false, List, [], ◌∷◌, ◌++◌, length, take, drop, refl, sym, ◌∙◌, ap, subst, Ok, Err, Result, Option, Some, None, arith, append_assoc, take-append-drop, length-append}
-use Rattle.std.specs.Prelude.{IfSome, IfOk, IsErrAnd, MatchBool}
+use Rattle.std.proofs.Common.{◌≡◌, inl, inr, ℕ, ◌+◌, ◌*◌, ◌^◌, ◌<◌, ◌≤◌, Bool, true, List, [], ◌∷◌, ◌++◌, length, take, drop, sym, ◌∙◌, ap, subst, Ok, Err, Result, Option, Some, None, arith, append_assoc, take-append-drop, length-append}
+use Rattle.std.specs.Prelude.{IfSome, IsErrAnd}
 use Rattle.std.specs.Int.{to_be_bytes, w32}
 use Rattle.std.specs.List.{All}
 use Rattle.std.proofs.lemmas.List.{drop_at}
-use Rattle.std.proofs.lemmas.List.Elements.{All-nil, All-push}
-use Rattle.site_core.specs.Log.{Act, reads}
-use Rattle.site_core.specs.Log.Act.{Asked}
+use Rattle.site_core.specs.Log.{reads}
 use Rattle.site_core.specs.Told.{Told, Goes}
-use Rattle.site_core.proofs.Runs.{goes_as, goes_on}
 use Rattle.torn_journal.specs.declared.faults.ResumeFault.{ResumeFault}
-use Rattle.torn_journal.specs.declared.faults.ResumeFault.TheVariants as resume_faults
 use Rattle.torn_journal.specs.declared.reading.Next.{Next}
 use Rattle.torn_journal.specs.declared.reading.Next.TheVariants as nexts
-use Rattle.torn_journal.specs.Journal.{header, open_gate, record_of, front_of, tail_of, IsPayload, IsJournal}
-use Rattle.torn_journal.specs.Resume.{Looks, NextIs, NoRecord, Finds, IsDamaged, IsReadFault, Walks, no_fault}
+use Rattle.torn_journal.specs.Journal.{header, record_of, front_of, IsPayload, IsJournal}
+use Rattle.torn_journal.specs.Resume.{Looks, NextIs, IsDamaged, IsReadFault, Walks, no_fault}
 use Rattle.torn_journal.specs.Visits.{AllFollow, FollowsFrom}
 use Rattle.torn_journal.proofs.Gates.{front_of-push, length-front_of-push}
 use Rattle.torn_journal.proofs.Looking.{looks_on, same_reads, no_fault_same}

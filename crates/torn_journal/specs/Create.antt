@@ -1,5 +1,5 @@
 -- The device calls that make a journal, and what they leave.
-use Rattle.std.specs.Prelude.{◌≡◌, ◌≢◌, ◌⊎◌, ℕ, ◌+◌, List, [], ◌∷◌, ◌++◌, length, true, false, Result, Ok, Err}
+use Rattle.std.specs.Prelude.{◌≡◌, ◌≢◌, ◌⊎◌, ℕ, List, [], ◌∷◌, ◌++◌, length, true, false, Result, Ok, Err}
 use Rattle.site_core.specs.Log.{Act, reads, sent, NothingPending}
 use Rattle.site_core.specs.Log.Act.{Asked}
 use Rattle.site_core.specs.Told.{Told, Ran}

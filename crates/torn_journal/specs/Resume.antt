@@ -1,5 +1,5 @@
 -- What an image says to a reader, and what reading it leaves.
-use Rattle.std.specs.Prelude.{◌≡◌, ◌≢◌, ◌⊎◌, ℕ, ◌+◌, ◌*◌, ◌^◌, ◌<◌, ◌≤◌, Bool, true, false, List, [], ◌∷◌, ◌++◌, length, take, drop, replicate, MatchBool, Option, IfSome, Result, Ok, Err}
+use Rattle.std.specs.Prelude.{◌≡◌, ◌≢◌, ◌⊎◌, ℕ, ◌+◌, ◌*◌, ◌^◌, ◌<◌, ◌≤◌, Bool, true, false, List, [], ◌∷◌, ◌++◌, length, take, drop, replicate, MatchBool, Option, IfSome, Result, Err}
 use Rattle.std.specs.List.{All}
 use Rattle.std.specs.Int.{from_be_bytes, to_be_bytes, w32}
 use Rattle.site_core.specs.Counts.{Rose}
@@ -10,7 +10,7 @@ use Rattle.torn_journal.specs.declared.faults.ResumeFault.{ResumeFault}
 use Rattle.torn_journal.specs.declared.faults.ResumeFault.TheVariants.{SiteFault, NoHeader, Damaged, NoMemory}
 use Rattle.torn_journal.specs.declared.reading.Next.{Next}
 use Rattle.torn_journal.specs.declared.reading.Next.TheVariants.{Tail, Damage, Payload}
-use Rattle.torn_journal.specs.Journal.{header, open_gate, record_of, front_of, tail_of, IsPayload, IsJournal}
+use Rattle.torn_journal.specs.Journal.{open_gate, record_of, front_of, tail_of, IsPayload, IsJournal}
 use Rattle.torn_journal.specs.Visits.{AllFollow}
 
 -- a length of 0, or over 131,072, or past the end of what comes behind it

@@ -1,4 +1,4 @@
-use Rattle.std.proofs.Common.{◌≡◌, ℕ, List, [], ◌∷◌, take, refl}
+use Rattle.std.proofs.Common.{ℕ, List, [], ◌∷◌, take, refl}
 use Rattle.host_ledger.specs.declared.config.Config.{Config}
 use Rattle.host_ledger.specs.declared.entries.Entry.{Entry}
 use Rattle.faim_model.specs.Lawful.{Lawful}

@@ -1,4 +1,4 @@
-use Rattle.std.proofs.Common.{◌≡◌, ◌-◌, ◌++◌, map, List, ℕ}
+use Rattle.std.proofs.Common.{◌≡◌, ◌-◌, ◌++◌, map}
 use Rattle.faim_top.specs.Lines.{words_of}
 use Rattle.faim_top.proofs.lines.words.Given as goal
 

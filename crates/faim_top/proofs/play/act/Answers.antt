@@ -1,9 +1,9 @@
 use Rattle.std.proofs.Common.{◌≡◌, ℕ, List, ap, sym, ◌∙◌, subst}
 use Rattle.std.specs.Prelude.{IfOk, OnOk}
-use Rattle.faim_model.specs.Turns.{adds_to, submitted}
+use Rattle.faim_model.specs.Turns.{adds_to}
 use Rattle.faim_top.specs.declared.script.Act.{Act}
 use Rattle.faim_top.specs.declared.script.Act.TheVariants.{Submit}
-use Rattle.faim_top.specs.Replay.{act_turn, opening_moment}
+use Rattle.faim_top.specs.Replay.{act_turn}
 use Rattle.faim_top.proofs.play.act.Goals as goal
 
 pub returns-in-Submit-clause-outcome : goal.returns-in-Submit-clause-outcome

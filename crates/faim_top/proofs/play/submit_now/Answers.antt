@@ -1,4 +1,4 @@
-use Rattle.std.proofs.Common.{◌≡◌, ◌*◌, ℕ, ap, sym, ◌∙◌, subst}
+use Rattle.std.proofs.Common.{◌≡◌, ℕ, ap, ◌∙◌, subst}
 use Rattle.std.specs.Prelude.{IfOk, OnOk}
 use Rattle.host_ledger.specs.declared.config.Config.{Config}
 use Rattle.faim_model.specs.Turns.{adds_to, submitted}

@@ -1,4 +1,4 @@
-use Rattle.std.proofs.Common.{ℕ, List, take, drop, length, ap, subst, sym, ◌∙◌, length-drop, arith}
+use Rattle.std.proofs.Common.{ℕ, List, take, drop, length, ap, subst, ◌∙◌, length-drop, arith}
 use Rattle.std.specs.Io.KnownBytes.{Appends}
 use Rattle.std.proofs.KnownBytes.{Appends-trans}
 use Rattle.faim_top.proofs.Pieces.{take_on}

@@ -1,4 +1,4 @@
-use Rattle.std.proofs.Common.{ℕ, ◌≤◌, List, length, take, filter, ap, arith}
+use Rattle.std.proofs.Common.{length, take, filter, ap, arith}
 use Rattle.std.proofs.lemmas.List.{length-map, length-take}
 use Rattle.faim_model.specs.Outputs.{Item, outputs, is_from}
 use Rattle.faim_top.proofs.turns.retrieve.Goals as goal

@@ -1,6 +1,5 @@
-use Rattle.std.proofs.Common.{◌≡◌, List, ap, sym, ◌∙◌, subst}
+use Rattle.std.proofs.Common.{◌≡◌, ap, sym, ◌∙◌, subst}
 use Rattle.std.specs.Prelude.{IfOk, OnOk}
-use Rattle.host_ledger.specs.declared.entries.Entry.{Entry}
 use Rattle.faim_model.specs.Turns.{HostTurn, adds_to}
 use Rattle.faim_top.proofs.Posting.{read_turn}
 use Rattle.faim_top.proofs.turns.submit.Goals as goal

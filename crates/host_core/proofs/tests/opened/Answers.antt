@@ -1,7 +1,6 @@
-use Rattle.std.proofs.Common.{◌≡◌, ℕ, List, false, [], ◌∙◌, ap}
+use Rattle.std.proofs.Common.{◌≡◌, false, [], ◌∙◌, ap}
 use Rattle.faim_base.specs.declared.judgement.Verdict.TheVariants.{Taken}
 use Rattle.host_ledger.specs.declared.config.Config.{Config}
-use Rattle.host_ledger.specs.declared.entries.Entry.{Entry}
 use Rattle.host_ledger.specs.declared.entries.Entry.TheVariants.{Posted}
 use Rattle.host_core.specs.State.{State}
 use Rattle.host_core.proofs.Payment.{day, follows_as, first, text}

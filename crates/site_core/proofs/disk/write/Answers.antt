@@ -1,4 +1,4 @@
-use Rattle.std.proofs.Common.{◌≡◌, List, ℕ, sym, ◌∙◌, ap}
+use Rattle.std.proofs.Common.{List, ℕ, sym, ◌∙◌, ap}
 use Rattle.site_core.specs.Log.{reads}
 use Rattle.site_core.specs.Memory.{patch_of}
 use Rattle.site_core.proofs.Patches.{fits_after, restored_after}

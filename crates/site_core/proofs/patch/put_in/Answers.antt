@@ -1,4 +1,4 @@
-use Rattle.std.proofs.Common.{◌≡◌, ◌∙◌, ◌+◌, ◌-◌, ◌++◌, List, ℕ, length, take, drop, ap, arith}
+use Rattle.std.proofs.Common.{◌∙◌, ◌+◌, ◌++◌, List, ℕ, length, take, drop, ap, arith}
 use Rattle.site_core.proofs.Patches.{put_wide}
 use Rattle.site_core.proofs.patch.put_in.Goals as goal
 

@@ -1,4 +1,4 @@
-use Rattle.std.proofs.Common.{◌≡◌, length, drop, refl, arith}
+use Rattle.std.proofs.Common.{drop, arith}
 use Rattle.site_core.specs.Log.{reads}
 use Rattle.site_core.specs.Told.{Told, IsRead}
 use Rattle.site_core.proofs.Runs.{goes_as, goes_knowing}

@@ -1,4 +1,4 @@
-use Rattle.std.proofs.Common.{Bool, drop, arith}
+use Rattle.std.proofs.Common.{Bool, drop}
 use Rattle.site_core.specs.Log.{reads}
 use Rattle.site_core.proofs.Runs.{goes_on}
 use Rattle.torn_journal.specs.Resume.{NextIs}

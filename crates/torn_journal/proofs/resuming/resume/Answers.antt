@@ -1,12 +1,10 @@
 use Rattle.std.proofs.Common.{◌≡◌, ℕ, List, Err, ap, subst}
-use Rattle.site_core.specs.Log.{reads}
-use Rattle.site_core.specs.Told.{Told}
 use Rattle.site_core.proofs.Runs.{goes_as, goes_on}
 use Rattle.torn_journal.specs.declared.faults.ResumeFault.{ResumeFault}
 use Rattle.torn_journal.specs.declared.faults.ResumeFault.TheVariants.{SiteFault, Damaged}
-use Rattle.torn_journal.specs.Resume.{IsDamaged, HasLooked, Walks, no_fault}
+use Rattle.torn_journal.specs.Resume.{IsDamaged, Walks, no_fault}
 use Rattle.torn_journal.proofs.Made.{handed_on}
-use Rattle.torn_journal.proofs.Resumed.{looked, sync_failed, synced_reads, read_before, found_before}
+use Rattle.torn_journal.proofs.Resumed.{looked, sync_failed, synced_reads, read_before}
 use Rattle.torn_journal.proofs.Walking.{no_fault_on, fault_is}
 use Rattle.torn_journal.proofs.resuming.resume.Goals as goal
 

@@ -1,0 +1,26 @@
+-- The tag with a number.
+use Rattle.std.proofs.Common.{◌≡◌, ℕ, Bool, true, false, cond, eqb, ◌||◌, List, [], ◌∷◌, Some, None, refl, sym, ap, ◌∙◌}
+use Rattle.std.specs.Prelude.{◌==◌}
+use Rattle.std.specs.List.{find}
+use Rattle.std.proofs.lemmas.Bool.{eqb-true}
+use Rattle.faim_tags.specs.Spelling.{Tag}
+use Rattle.faim_tags.specs.Reading.{is_among}
+use Rattle.faim_message.specs.Spelling.{numbers}
+
+-- what is found has the number
+pub found_number : (n : ℕ) (tags : List Tag) (v : Tag) → find (λ w. w.no == n) tags ≡ Some v → v.no ≡ n
+found_number n [] v e = absurd cc
+found_number n (w ∷ tags) v e = here (λ h. found_number n tags v h) (eqb w.no n) refl e
+  where
+    here : (find (λ w. w.no == n) tags ≡ Some v → v.no ≡ n) → (b : Bool) → eqb w.no n ≡ b → cond b (Some w) (find (λ w. w.no == n) tags) ≡ Some v → v.no ≡ n
+    here more true b e = let same : w ≡ v = cc in ap (λ (x : Tag). x.no) (sym same) ∙ eqb-true w.no n b
+    here more false b e = more e
+
+-- a number that is there is found
+pub found_there : (n : ℕ) (tags : List Tag) → is_among (numbers tags) n ≡ true → find (λ w. w.no == n) tags ≡ None → ⊥
+found_there n [] e f = absurd (let wrong : false ≡ true = e in cc)
+found_there n (w ∷ tags) e f = here (λ h k. found_there n tags h k) (eqb w.no n) e f
+  where
+    here : (is_among (numbers tags) n ≡ true → find (λ w. w.no == n) tags ≡ None → ⊥) → (b : Bool) → b || is_among (numbers tags) n ≡ true → cond b (Some w) (find (λ w. w.no == n) tags) ≡ None → ⊥
+    here more true e f = absurd cc
+    here more false e f = more e f

@@ -1,0 +1,71 @@
+// A draft's identifier.
+ghost use Rattle.std.specs.Prelude.{◌≡◌, ◌==◌, ◌≤◌, true, length, insert, IfOk};
+ghost use Rattle.std.specs.List.{position};
+ghost use Rattle.faim_base.specs.Ids.{imad_text};
+ghost use Rattle.faim_tags.specs.Layouts.{classes};
+ghost use Rattle.faim_tags.specs.Spelling.{Tag, IsTag, fill};
+ghost use Rattle.faim_message.specs.declared.form.Form.{Form};
+ghost use Rattle.faim_message.specs.Numbering.{imad_tag, put_behind, numbered};
+
+use crate::message::{message_of, parts_of};
+use crate::{Form, Message};
+use faim_base::{Bytes, Imad, NoMemory, TagNo};
+use faim_tags::{Stars, TagValue};
+use std::alloc::Global;
+
+/// The submission that the draft is with this identifier: a tag 1520 stands right behind the tag 1510, and all else is
+/// the draft's. `NoMemory` gives the draft up. The message has the form `Draft` (docs/FORMATS.md, "Messages").
+pub fn with_imad(alloc: Global, m: Message, imad: Imad) -> Result<Message, NoMemory>
+    requires { m.form ≡ Form.Draft }
+    ensures { IfOk result (λ w. w ≡ numbered m (imad_text imad)) }
+{
+    let tag = imad_tag(alloc, &imad)?;
+    let (breaks, mut tags) = parts_of(m);
+    let place = place_behind(tags.as_slice(), 1510);
+    tags.insert(place, tag)?;
+    Ok(message_of(Form::Input, breaks, tags))
+}
+
+// The tag with the identifier.
+fn imad_tag(alloc: Global, imad: &Imad) -> Result<TagValue, NoMemory>
+    ensures value { IfOk result (λ v. v ≡ imad_tag (imad_text imad.now)) }
+    ensures sound { IfOk result IsTag }
+{
+    let mut fixed = Bytes::new(alloc);
+    fixed.extend(&imad_text(imad))?;
+    Ok(TagValue {
+        no: TagNo::new(1520).unwrap(),
+        fixed,
+        stars: Stars::new(alloc),
+        closed: false,
+    })
+}
+
+// The identifier's text.
+fn imad_text(imad: &Imad) -> [u8; 22]
+    ensures value { result ≡ imad_text imad.now }
+    ensures filled { fill (classes 1520) result ≡ true }
+{
+    let mut text = [0; 22];
+    imad.write(&mut text);
+    // That an endpoint's bytes are text bytes makes the text fit the tag.
+    let _source = imad.source.bytes();
+    text
+}
+
+// The place right behind the first tag with this number, or the end.
+fn place_behind(tags: &[TagValue], number: u16) -> usize
+    ensures within { result ≤ length tags.now }
+    ensures place { (t : Tag) → insert tags.now result t ≡ put_behind number t tags.now }
+{
+    match position_of(tags, number) {
+        Some(place) => place + 1,
+        None => tags.len(),
+    }
+}
+
+fn position_of(tags: &[TagValue], number: u16) -> Option<usize>
+    ensures { result ≡ position (λ v. v.no == number) tags.now }
+{
+    tags.iter().position(|tag| tag.no.get() == number)
+}

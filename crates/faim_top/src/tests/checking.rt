@@ -1,0 +1,126 @@
+use super::{Ran, Streams, bytes, run_over};
+use crate::{Reason, Status};
+use faim_base::{Bytes, NoMemory, Places, Refused, TagNo};
+use std::alloc::Global;
+use std::test::Fail;
+
+const JOINED: &[u8] =
+    b"{1500}30USERREQ1T {1510}1000{1520}20240102BANKA001000001{2000}000000150000{3100}021000021ALPHA BANK*{3400}121042882BETA BANK*{3600}BTR";
+
+// The same message with LF behind each tag, the names filled up with blanks, and a last star element without its star.
+const IN_LINES: &[u8] =
+    b"{1500}30USERREQ1T \n{1510}1000\n{1520}20240102BANKA001000001\n{2000}000000150000\n{3100}021000021ALPHA BANK        *\n{3400}121042882BETA BANK         *\n{3600}BTR   \n";
+
+// A payment of a customer, with CR and LF between its tags and nothing behind the last.
+const OF_CUSTOMER: &[u8] =
+    b"{1500}30INVOICE1P \r\n{1510}1000\r\n{1520}20240102BANKA001000002\r\n{2000}000000025000\r\n{3100}021000021ALPHA BANK*\r\n{3400}121042882BETA BANK*\r\n{3600}CTR\r\n{4200}D123456789*JOHN DOE*1 MAIN ST*ANYTOWN*\r\n{4320}REF 2024-1*\r\n{5000}D987654321*ACME CORP*\r\n{6000}INVOICE 1*INVOICE 2*INVOICE 3*THANK YOU*";
+
+const FULL_NAME: &[u8] =
+    b"{1500}30USERREQ1T {1510}1000{1520}20240102BANKA001000001{2000}000000150000{3100}021000021ABCDEFGHIJKLMNOPQR{3400}121042882BETA BANK*{3600}BTR";
+
+const NAME_TOO_LONG: &[u8] =
+    b"{1500}30USERREQ1T {1510}1000{1520}20240102BANKA001000001{2000}000000150000{3100}021000021ABCDEFGHIJKLMNOPQRS{3400}121042882BETA BANK*{3600}BTR";
+
+// An input is checked, with reads that end at these places.
+fn checked(alloc: Global, input: &[u8], cuts: &[usize]) -> Result<Ran, NoMemory> {
+    let streams = Streams {
+        cuts,
+        read_fails: &[],
+        write_fails: &[],
+    };
+    run_over(alloc, &["check"], input, &streams)
+}
+
+fn joined(alloc: Global, front: &[u8], behind: &[u8]) -> Result<Bytes, NoMemory> {
+    let mut all = bytes(alloc, front)?;
+    all.extend(behind)?;
+    Ok(all)
+}
+
+// Cuts between all bytes.
+fn each_byte(alloc: Global, input: &[u8]) -> Result<Places, NoMemory> {
+    let mut cuts = Places::new(alloc);
+    for cut in 1..input.len() {
+        cuts.push(cut)?;
+    }
+    Ok(cuts)
+}
+
+#[test]
+fn a_message_is_accepted_and_written_again(rt: HostRuntime) -> Result<(), Fail> {
+    for message in [JOINED, IN_LINES, OF_CUSTOMER, FULL_NAME] {
+        let wanted = joined(rt.alloc(), b"accepted\n", message)?;
+        let cuts = each_byte(rt.alloc(), message)?;
+        for cuts in [&[], cuts.as_slice()] {
+            let ran = checked(rt.alloc(), message, cuts)?;
+            assert_eq!(rt; ran.status, Status::Done);
+            assert_eq!(rt; ran.written.as_slice(), wanted.as_slice());
+        }
+    }
+    Ok(())
+}
+
+#[test]
+fn an_input_is_refused_at_its_first_wrong_byte(rt: HostRuntime) -> Result<(), Fail> {
+    let alloc = rt.alloc();
+    let other_break = joined(alloc, &IN_LINES[..160], b"\r\n")?;
+    let tag_again = joined(alloc, JOINED, b"{6000}HELLO*{6000}AGAIN*")?;
+    let cases: [(&[u8], &[u8], usize); 3] = [
+        (other_break.as_slice(), b"byte 160\n", 160),
+        (tag_again.as_slice(), b"byte 148\n", 148),
+        (NAME_TOO_LONG, b"byte 107\n", 107),
+    ];
+    for (input, line, place) in cases {
+        let cuts = each_byte(alloc, input)?;
+        for cuts in [&[], cuts.as_slice()] {
+            let ran = checked(alloc, input, cuts)?;
+            assert_eq!(rt;
+                ran.status,
+                Status::Refused(Reason::Text(Refused::Byte(place)))
+            );
+            assert_eq!(rt; ran.written.as_slice(), line);
+        }
+    }
+    Ok(())
+}
+
+#[test]
+fn an_input_that_ends_too_early_is_refused(rt: HostRuntime) -> Result<(), Fail> {
+    let alloc = rt.alloc();
+    let code = TagNo::new(3600).ok_or("the code's tag")?;
+    let returned = joined(alloc, OF_CUSTOMER, b"\r")?;
+    let cases: [(&[u8], &[u8], Refused); 3] = [
+        (b"", b"cut\n", Refused::Cut),
+        (returned.as_slice(), b"cut\n", Refused::Cut),
+        (&JOINED[..125], b"missing 3600\n", Refused::Missing(code)),
+    ];
+    for (input, line, why) in cases {
+        let ran = checked(alloc, input, &[])?;
+        assert_eq!(rt; ran.status, Status::Refused(Reason::Text(why)));
+        assert_eq!(rt; ran.written.as_slice(), line);
+        assert_eq!(rt; ran.status.code(), 3);
+    }
+    Ok(())
+}
+
+#[test]
+fn faults_end_a_check(rt: HostRuntime) -> Result<(), Fail> {
+    let cases: [(&[usize], &[usize], Status); 4] = [
+        (&[1], &[], Status::ReadFault),
+        (&[2], &[], Status::ReadFault),
+        (&[], &[1], Status::WriteFault),
+        (&[3], &[2], Status::Done),
+    ];
+    for (read_fails, write_fails, want) in cases {
+        let streams = Streams {
+            cuts: &[],
+            read_fails,
+            write_fails,
+        };
+        let ran = run_over(rt.alloc(), &["check"], JOINED, &streams)?;
+        let is_done = want == Status::Done;
+        assert_eq!(rt; ran.status, want);
+        assert_eq!(rt; ran.written.as_slice().is_empty(), !is_done);
+    }
+    Ok(())
+}
