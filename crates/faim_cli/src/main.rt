@@ -2,6 +2,8 @@
 #![tactic(auto)]
 
 mod adapters;
+#[cfg(test)]
+mod tests;
 
 use adapters::{StdSink, StdSource};
 use faim_top::{Status, run};

@@ -1,6 +1,7 @@
-use super::{Ran, Streams, bytes, run_over};
-use crate::{Reason, Status};
+use super::{Ran, Streams, bytes, owned, run_over};
+use crate::{Reason, Status, run};
 use faim_base::{Bytes, NoMemory, Places, Refused, TagNo};
+use site_core::{MemSink, MemSource, Source};
 use std::alloc::Global;
 use std::test::Fail;
 
@@ -100,6 +101,30 @@ fn an_input_that_ends_too_early_is_refused(rt: HostRuntime) -> Result<(), Fail> 
         assert_eq!(rt; ran.written.as_slice(), line);
         assert_eq!(rt; ran.status.code(), 3);
     }
+    Ok(())
+}
+
+// Adds so many letters.
+fn add_letters(text: &mut Bytes, count: usize) -> Result<(), NoMemory> {
+    for _ in 0..count {
+        text.push(b'X')?;
+    }
+    Ok(())
+}
+
+#[test]
+fn no_more_is_read_than_one_byte_beyond_the_longest_message(rt: HostRuntime) -> Result<(), Fail> {
+    let alloc = rt.alloc();
+    let mut input = bytes(alloc, JOINED)?;
+    add_letters(&mut input, 5_000)?;
+    let words = owned(alloc, &["check"])?;
+    let mut source = MemSource::new(input, Places::new(alloc), Places::new(alloc));
+    let mut sink = MemSink::new(alloc, Places::new(alloc));
+    let status = run(alloc, words.as_slice(), &mut source, &mut sink);
+    assert_eq!(rt; status, Status::Refused(Reason::Text(Refused::Byte(137))));
+    assert_eq!(rt; sink.bytes(), b"byte 137\n".as_slice());
+    let mut rest = [0; 1_000];
+    assert_eq!(rt; source.read(&mut rest), Ok(899));
     Ok(())
 }
 
