@@ -1,5 +1,6 @@
 // Message identifiers, positions of outputs, and stamps (docs/FORMATS.md, "Identifiers").
 ghost use Rattle.std.specs.Prelude.{◌≡◌, IsTrue, length, bytes_eq};
+ghost use Rattle.faim_base.specs.Ranges.{IsEndpoint};
 ghost use Rattle.faim_base.specs.Ids.{read_imad, imad_text, read_position, position_text, read_omad, omad_text, read_stamp, stamp_text, is_stamp, application};
 ghost use Rattle.faim_base.specs.Calendar.{days_in_month};
 
@@ -65,7 +66,8 @@ impl Imad {
 
     /// Writes the 22 bytes.
     pub fn write(&self, text: &mut [u8; 22])
-        ensures { text.new ≡ imad_text self.now }
+        ensures text { text.new ≡ imad_text self.now }
+        ensures source { IsEndpoint self.now.source }
     {
         write_date(self.date, &mut text[..8]);
         text[8..16].copy_from_slice(&self.source.bytes());

@@ -1,6 +1,7 @@
 -- Bytes are a message of a form, or refused.
-use Rattle.std.proofs.Common.{◌≡◌, ◌≢◌, ◌⊎◌, inl, inr, ℕ, Bool, true, false, List, [], ◌∷◌, ◌++◌, length, take, Option, Some, None, refl, sym, ap, subst, ◌∙◌, arith, length-append, append_assoc}
+use Rattle.std.proofs.Common.{◌≡◌, ◌≢◌, ◌⊎◌, inl, inr, ℕ, Bool, true, false, List, [], ◌∷◌, ◌++◌, length, Option, Some, None, refl, sym, ap, subst, ◌∙◌, arith, length-append, append_assoc}
 use Rattle.std.specs.Prelude.{slice_index}
+use Rattle.std.proofs.Math.Seq.{take-append_seam}
 use Rattle.faim_base.specs.declared.judgement.Refused.{Refused}
 use Rattle.faim_base.specs.declared.judgement.Refused.TheVariants.{Byte, Cut, Missing, NoMemory}
 use Rattle.faim_message.specs.declared.form.Form.{Form}
@@ -9,10 +10,6 @@ use Rattle.faim_message.specs.Refusal.{Refuses, missing}
 use Rattle.faim_message.specs.Stages.{Stage, start, next, reads, is_whole, tags_of, breaks_of, BreaksAt, Ends}
 use Rattle.faim_message.proofs.Flow.{reads-then, reads-one}
 use Rattle.faim_message.proofs.Judge.{breaks-stops, halts-cut, ends-spells, ends-missing}
-
-take_front : (front rest : List ℕ) → take (length front) (front ++ rest) ≡ front
-take_front [] rest = refl
-take_front (b ∷ front) rest = ap (λ (l : List ℕ). b ∷ l) (take_front front rest)
 
 byte_behind : (front rest : List ℕ) (b : ℕ) → slice_index (front ++ b ∷ rest) (length front) ≡ b
 byte_behind [] rest b = refl
@@ -29,7 +26,7 @@ breaks_behind form front (b ∷ rest) s run none = go (next form s b) (λ t. bre
       record {
         short = omega (arith, length-append front (b ∷ rest));
         stage = s;
-        run = ap (reads form start) (take_front front (b ∷ rest)) ∙ run;
+        run = ap (reads form start) (take-append_seam front (b ∷ rest)) ∙ run;
         none = ap (next form s) (byte_behind front rest b) ∙ e;
       },
     )

@@ -48,8 +48,6 @@ fn imad_text(imad: &Imad) -> [u8; 22]
 {
     let mut text = [0; 22];
     imad.write(&mut text);
-    // That an endpoint's bytes are text bytes makes the text fit the tag.
-    let _source = imad.source.bytes();
     text
 }
 
