@@ -40,6 +40,11 @@ OneReason = (form : Form) (bytes : List ℕ) (a b : refusals.Refused) → Refuse
 abbrev pub ReadWhole : Command → Option (List ℕ) → List ℕ → Type 0
 ReadWhole command rest text = IsAtEnd rest ⊎ (length text ≡ limit_of command + 1)
 
+pub read_whole : (command : Command) (rest : Option (List ℕ)) (text : List ℕ) (most : ℕ) → most ≡ limit_of command + 1
+    → IsAtEnd rest ⊎ (length text ≡ most) → ReadWhole command rest text
+read_whole command rest text most is (inl end) = inl end
+read_whole command rest text most is (inr long) = inr (long ∙ is)
+
 over_limit : (b : Bool) (read : Result Script ScriptFault) → b ≡ false → (if b then read else Err (record { line = 0; why = Size })) ≡ Err (record { line = 0; why = Size })
 over_limit true read e = absurd cc
 over_limit false read e = refl
@@ -130,10 +135,10 @@ done_at_end short Check rest text bytes (inr long) (inl h) = absurd (omega (arit
 done_at_end short Check rest text bytes (inr long) (inr h) = absurd (let wrong : Done ≡ Refused (reasons.Text h.0) = h.2 in cc)
 done_at_end short Replay rest text bytes (inr long) h = absurd (done_short (script_of text) h.0 (record { line = 0; why = Size }) (too_long text (omega (arith, long))))
 
-writes : (command : Command) (left old new : Option (List ℕ)) (status : Status) (bytes answer : List ℕ)
+writes : (command : Command) (left old new : Option (List ℕ)) (status : Status) (bytes : List ℕ)
     → IfSome left (λ whole. Answers command whole status bytes) → Appends old new bytes → IfSome left (λ whole. Writes command whole status old new)
-writes command None old new status bytes answer h grew = tt
-writes command (Some xs) old new status bytes answer h grew = record { bytes = bytes; answers = h; written = grew }
+writes command None old new status bytes h grew = tt
+writes command (Some xs) old new status bytes h grew = record { bytes = bytes; answers = h; written = grew }
 
 -- all of the answer is written
 pub written : AreShort → (command : Command) (left rest old new : Option (List ℕ)) (text : List ℕ) (status : Status) (bytes : List ℕ)
@@ -144,10 +149,10 @@ written short command left rest old new text status bytes taken whole h grew =
     ⊎_elim
     (λ (e : status ≡ Done).
     let done = subst Q e h in
-    subst P (sym e) (writes command left old new Done bytes bytes (answers_whole short command left rest text Done bytes taken whole done) grew, done_at_end short command rest text bytes whole done))
+    subst P (sym e) (writes command left old new Done bytes (answers_whole short command left rest text Done bytes taken whole done) grew, done_at_end short command rest text bytes whole done))
     (λ (e : (why : Reason) × (status ≡ Refused why)).
     let f : status ≡ Refused e.0 = e.1 in
-    subst P (sym f) (writes command left old new (Refused e.0) bytes bytes (answers_whole short command left rest text (Refused e.0) bytes taken whole (subst Q f h)) grew))
+    subst P (sym f) (writes command left old new (Refused e.0) bytes (answers_whole short command left rest text (Refused e.0) bytes taken whole (subst Q f h)) grew))
     (proper command text status bytes h)
 
 -- a part of it is

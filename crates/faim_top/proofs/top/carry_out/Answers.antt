@@ -1,19 +1,20 @@
-use Rattle.std.proofs.Common.{◌≡◌, inl, inr, List, ℕ, length, subst, ◌∙◌, ⊎_elim}
-use Rattle.std.specs.Io.KnownBytes.{IsAtEnd, Appends}
+use Rattle.std.proofs.Common.{inl, inr, List, ℕ, subst}
+use Rattle.std.specs.Io.KnownBytes.{Appends}
 use Rattle.faim_top.specs.Ends.{Answers, AppendsPart}
-use Rattle.faim_top.proofs.Endings.{ReadWhole, written, written_part, answered, no_fault}
+use Rattle.faim_top.proofs.Endings.{read_whole, written, written_part, answered, no_fault}
 use Rattle.faim_top.proofs.top.carry_out.Goals as goal
 
 pub returns-in-Ok-write_all-clause-ended : goal.returns-in-Ok-write_all-clause-ended
 returns-in-Ok-write_all-clause-ended g c =
-    let text = c.in-Ok.text in
+    let left = g.I.Source.left c.args.input.now in
+    let rest = g.I.Source.left c.read_up_to.new.input in
+    let old = g.O.Sink.written c.args.out.now in
+    let new = g.O.Sink.written c.write_all.new.out in
     let P : List ℕ → Type 0 = λ t. Answers c.args.command t c.in-Ok-answer_to.answer.1 c.in-Ok-answer_to.answer.0.items in
-    let answers = subst P c.as_slice.ensures c.in-Ok-answer_to.ensures in
-    let whole : ReadWhole c.args.command (g.I.Source.left c.read_up_to.new.input) text =
-    ⊎_elim (λ (end : IsAtEnd (g.I.Source.left c.read_up_to.new.input)). inl end) (λ (long : length text ≡ c.most_of.result). inr (long ∙ c.most_of.ensures)) c.in-Ok.ensures.all.1 in
-    let Q : List ℕ → Type 0 = λ t. Appends (g.O.Sink.written c.args.out.now) (g.O.Sink.written c.write_all.new.out) t in
-    written c.spellings_are_short.ensures c.args.command (g.I.Source.left c.args.input.now) (g.I.Source.left c.read_up_to.new.input) (g.O.Sink.written c.args.out.now) (g.O.Sink.written c.write_all.new.out)
-    text c.in-Ok-answer_to.answer.1 c.in-Ok-answer_to.answer.0.items c.in-Ok.ensures.all.0 whole answers (subst Q c.as_slice-2.ensures.value c.in-Ok-write_all.ensures.all)
+    let Q : List ℕ → Type 0 = λ t. Appends old new t in
+    written c.spellings_are_short.ensures c.args.command left rest old new c.in-Ok.text c.in-Ok-answer_to.answer.1 c.in-Ok-answer_to.answer.0.items c.in-Ok.ensures.all.0
+    (read_whole c.args.command rest c.in-Ok.text c.most_of.result c.most_of.ensures c.in-Ok.ensures.all.1)
+    (subst P c.as_slice.ensures c.in-Ok-answer_to.ensures) (subst Q c.as_slice-2.ensures.value c.in-Ok-write_all.ensures.all)
 
 pub returns-in-Ok-write_all-clause-read : goal.returns-in-Ok-write_all-clause-read
 returns-in-Ok-write_all-clause-read g c =
@@ -25,21 +26,21 @@ returns-in-Ok-write_all-clause-write g c =
 
 pub returns-in-Ok-write_all-clause-complete : goal.returns-in-Ok-write_all-clause-complete
 returns-in-Ok-write_all-clause-complete g c = λ status wanted reads writes.
-    let text = c.in-Ok.text in
+    let left = g.I.Source.left c.args.input.now in
+    let rest = g.I.Source.left c.read_up_to.new.input in
     let P : List ℕ → Type 0 = λ t. Answers c.args.command t c.in-Ok-answer_to.answer.1 c.in-Ok-answer_to.answer.0.items in
-    let answers = subst P c.as_slice.ensures c.in-Ok-answer_to.ensures in
-    let whole : ReadWhole c.args.command (g.I.Source.left c.read_up_to.new.input) text =
-    ⊎_elim (λ (end : IsAtEnd (g.I.Source.left c.read_up_to.new.input)). inl end) (λ (long : length text ≡ c.most_of.result). inr (long ∙ c.most_of.ensures)) c.in-Ok.ensures.all.1 in
-    inl (answered c.spellings_are_short.ensures c.spelled_is_not_refused.ensures c.one_refusal.ensures c.args.command (g.I.Source.left c.args.input.now) (g.I.Source.left c.read_up_to.new.input)
-    text c.in-Ok-answer_to.answer.1 c.in-Ok-answer_to.answer.0.items status c.in-Ok.ensures.all.0 whole answers wanted)
+    inl (answered c.spellings_are_short.ensures c.spelled_is_not_refused.ensures c.one_refusal.ensures c.args.command left rest c.in-Ok.text c.in-Ok-answer_to.answer.1 c.in-Ok-answer_to.answer.0.items status c.in-Ok.ensures.all.0
+    (read_whole c.args.command rest c.in-Ok.text c.most_of.result c.most_of.ensures c.in-Ok.ensures.all.1)
+    (subst P c.as_slice.ensures c.in-Ok-answer_to.ensures) wanted)
 
 pub returns-clause-ended : goal.returns-clause-ended
 returns-clause-ended g c =
-    let text = c.in-Ok.text in
+    let left = g.I.Source.left c.args.input.now in
+    let rest = g.I.Source.left c.read_up_to.new.input in
+    let old = g.O.Sink.written c.args.out.now in
+    let new = g.O.Sink.written c.write_all.new.out in
     let P : List ℕ → Type 0 = λ t. Answers c.args.command t c.in-Ok-answer_to.answer.1 c.in-Ok-answer_to.answer.0.items in
-    let answers = subst P c.as_slice.ensures c.in-Ok-answer_to.ensures in
-    let whole : ReadWhole c.args.command (g.I.Source.left c.read_up_to.new.input) text =
-    ⊎_elim (λ (end : IsAtEnd (g.I.Source.left c.read_up_to.new.input)). inl end) (λ (long : length text ≡ c.most_of.result). inr (long ∙ c.most_of.ensures)) c.in-Ok.ensures.all.1 in
-    let Q : List ℕ → Type 0 = λ t. AppendsPart (g.O.Sink.written c.args.out.now) (g.O.Sink.written c.write_all.new.out) t in
-    written_part c.spellings_are_short.ensures c.args.command (g.I.Source.left c.args.input.now) (g.I.Source.left c.read_up_to.new.input) (g.O.Sink.written c.args.out.now) (g.O.Sink.written c.write_all.new.out)
-    text c.in-Ok-answer_to.answer.1 c.in-Ok-answer_to.answer.0.items c.in-Ok.ensures.all.0 whole answers (subst Q c.as_slice-2.ensures.value c.in-Err-write_all.ensures.part)
+    let Q : List ℕ → Type 0 = λ t. AppendsPart old new t in
+    written_part c.spellings_are_short.ensures c.args.command left rest old new c.in-Ok.text c.in-Ok-answer_to.answer.1 c.in-Ok-answer_to.answer.0.items c.in-Ok.ensures.all.0
+    (read_whole c.args.command rest c.in-Ok.text c.most_of.result c.most_of.ensures c.in-Ok.ensures.all.1)
+    (subst P c.as_slice.ensures c.in-Ok-answer_to.ensures) (subst Q c.as_slice-2.ensures.value c.in-Err-write_all.ensures.part)
