@@ -1,14 +1,13 @@
 -- Whole entries, read exactly.
 use Rattle.std.proofs.Common.{◌≡◌, ℕ, zero, suc, ◌-◌, ◌^◌, ◌<◌, ◌≤◌, ◌==◌, Bool, true, false, cond, List, [], ◌∷◌, ◌++◌, length, take, drop, Option, Some, None, refl, sym, ◌∙◌, ap, subst, append_assoc, length-append, arith}
 use Rattle.std.specs.Prelude.{IsTrue}
-use Rattle.std.specs.List.{list_all}
 use Rattle.std.specs.Int.{w16, w32, w64, to_be_bytes}
 use Rattle.std.proofs.lemmas.List.{take_at}
 use Rattle.std.proofs.lemmas.Bool.Decides.{nat_tests}
 use Rattle.std.proofs.lemmas.Bool.{eqb-true}
-use Rattle.faim_base.specs.Ranges.{IsDay, IsEndpoint, IsSeq, IsImad}
+use Rattle.faim_base.specs.Numbers.{IsAmount, IsDay, IsMoment, IsSeq, IsType}
+use Rattle.faim_base.specs.Ranges.{IsAba, IsEndpoint, IsImad}
 use Rattle.faim_base.specs.Refusals.{is_recorded}
-use Rattle.faim_base.specs.Text.{is_text_byte}
 use Rattle.faim_base.specs.declared.ids.Imad.{Imad}
 use Rattle.faim_base.specs.declared.judgement.Head.{Head}
 use Rattle.faim_base.specs.declared.judgement.Reject.{Reject}
@@ -16,7 +15,8 @@ use Rattle.faim_base.specs.declared.judgement.Verdict.{Verdict}
 use Rattle.faim_base.specs.declared.judgement.Verdict.TheVariants.{Taken, Refused}
 use Rattle.host_ledger.specs.declared.entries.Entry.{Entry}
 use Rattle.host_ledger.specs.declared.entries.Entry.TheVariants.{Posted, Roll}
-use Rattle.entry_codec.specs.Spelling.{imad_bytes, head_bytes, verdict_bytes, flag, body_bytes, entry_bytes, IsAba, IsHead, IsVerdict, IsBody, IsMoment, IsEntry}
+use Rattle.entry_codec.specs.Spelling.{imad_bytes, head_bytes, verdict_bytes, flag, body_bytes, entry_bytes}
+use Rattle.host_ledger.specs.Ranges.{IsCode, IsHead, IsVerdict, IsBody, IsEntry}
 use Rattle.entry_codec.specs.declared.fault.CodecFault.{CodecFault}
 use Rattle.entry_codec.specs.declared.fault.CodecFault.TheVariants as faults
 use Rattle.entry_codec.specs.Reading.{Fails, ◌>>=◌, number_at, byte_at, date_at, moment_at, seq_at, cents_at, endpoint_at, aba_at, code_at, kind_at, flag_at, imad_at, head_at, taken_at, refused_at, verdict_at, body_at, posted_at, roll_at, entry_at}
@@ -31,9 +31,6 @@ piece p = p
 
 abbrev one : ℕ → List ℕ
 one b = b ∷ []
-
-abbrev IsCode : List ℕ → Type 0
-IsCode p = (length p ≡ 3) × IsTrue (list_all is_text_byte p)
 
 abbrev made : Imad → List ℕ → List ℕ → List ℕ → ℕ → ℕ → ℕ → Head
 made i s r c k u a = record { imad = i; sender = s; receiver = r; code = c; kind = k; sub = u; amount = a }
@@ -63,15 +60,15 @@ record Last (i : Imad) (s r c bytes : List ℕ) (x : Head × List ℕ) : Type 0 
   amount : ℕ
   takes : Takes bytes (one kind ++ (one sub ++ to_be_bytes w64 amount)) x.1
   is : made i s r c kind sub amount ≡ x.0
-  kind_fits : kind ≤ 99
-  sub_fits : sub ≤ 99
-  amount_fits : amount ≤ 999999999999
+  kind_fits : IsType kind
+  sub_fits : IsType sub
+  amount_fits : IsAmount amount
 
 last_takes : (i : Imad) (s r c bytes : List ℕ) (x : Head × List ℕ) → IsBytes bytes → (kind_at bytes >>= k5 i s r c) ≡ Some x → Last i s r c bytes x
 last_takes i s r c bytes x fits e =
-    let k = step one (λ n. n ≤ 99) kind_at kind_reads (k5 i s r c) bytes x fits e in
-    let u = step one (λ n. n ≤ 99) kind_at kind_reads (k6 i s r c k.0.0) k.0.1 x k.1.fits k.3 in
-    let a = step (to_be_bytes w64) (λ n. n ≤ 999999999999) cents_at cents_reads (λ (a : ℕ × List ℕ). Some (made i s r c k.0.0 u.0.0 a.0, a.1)) u.0.1 x u.1.fits u.3 in
+    let k = step one IsType kind_at kind_reads (k5 i s r c) bytes x fits e in
+    let u = step one IsType kind_at kind_reads (k6 i s r c k.0.0) k.0.1 x k.1.fits k.3 in
+    let a = step (to_be_bytes w64) IsAmount cents_at cents_reads (λ (a : ℕ × List ℕ). Some (made i s r c k.0.0 u.0.0 a.0, a.1)) u.0.1 x u.1.fits u.3 in
     let same = some_is (made i s r c k.0.0 u.0.0 a.0.0, a.0.1) x a.3 in
     record {
       kind = k.0.0;
@@ -98,9 +95,9 @@ record Rest (i : Imad) (bytes : List ℕ) (x : Head × List ℕ) : Type 0 where
   sender_fits : IsAba sender
   receiver_fits : IsAba receiver
   code_fits : IsCode code
-  kind_fits : kind ≤ 99
-  sub_fits : sub ≤ 99
-  amount_fits : amount ≤ 999999999999
+  kind_fits : IsType kind
+  sub_fits : IsType sub
+  amount_fits : IsAmount amount
 
 rest_takes : (i : Imad) (bytes : List ℕ) (x : Head × List ℕ) → IsBytes bytes → (aba_at bytes >>= k2 i) ≡ Some x → Rest i bytes x
 rest_takes i bytes x fits e =
@@ -149,9 +146,9 @@ head_again h rest fit =
     ∙ step_again piece IsAba aba_at aba_reads (k2 h.imad) h.sender (h.receiver ++ (h.code ++ (one h.kind ++ (one h.sub ++ (a ++ rest))))) fit.sender
     ∙ step_again piece IsAba aba_at aba_reads (k3 h.imad h.sender) h.receiver (h.code ++ (one h.kind ++ (one h.sub ++ (a ++ rest)))) fit.receiver
     ∙ step_again piece IsCode code_at code_reads (k4 h.imad h.sender h.receiver) h.code (one h.kind ++ (one h.sub ++ (a ++ rest))) fit.code
-    ∙ step_again one (λ n. n ≤ 99) kind_at kind_reads (k5 h.imad h.sender h.receiver h.code) h.kind (one h.sub ++ (a ++ rest)) fit.kind
-    ∙ step_again one (λ n. n ≤ 99) kind_at kind_reads (k6 h.imad h.sender h.receiver h.code h.kind) h.sub (a ++ rest) fit.sub
-    ∙ step_again (to_be_bytes w64) (λ n. n ≤ 999999999999) cents_at cents_reads (λ (a : ℕ × List ℕ). Some (made h.imad h.sender h.receiver h.code h.kind h.sub a.0, a.1)) h.amount rest fit.amount
+    ∙ step_again one IsType kind_at kind_reads (k5 h.imad h.sender h.receiver h.code) h.kind (one h.sub ++ (a ++ rest)) fit.kind
+    ∙ step_again one IsType kind_at kind_reads (k6 h.imad h.sender h.receiver h.code h.kind) h.sub (a ++ rest) fit.sub
+    ∙ step_again (to_be_bytes w64) IsAmount cents_at cents_reads (λ (a : ℕ × List ℕ). Some (made h.imad h.sender h.receiver h.code h.kind h.sub a.0, a.1)) h.amount rest fit.amount
 
 head_reads : Reads head_bytes IsHead head_at
 head_reads = record { takes = head_takes; again = head_again }

@@ -4,3 +4,4 @@ pub mod Codecs
 pub mod Configs
 pub mod Entries
 pub mod Pieces
+pub mod Lengths

@@ -5,10 +5,13 @@ use Rattle.std.specs.List.{list_all}
 use Rattle.std.specs.Int.{Width, w16, w32, w64, to_be_bytes}
 use Rattle.std.proofs.lemmas.Bool.{le-leb, leb-true}
 use Rattle.std.proofs.lemmas.Bool.Decides.{nat_tests}
-use Rattle.faim_base.specs.Ranges.{IsDay, IsEndpoint, IsSeq, IsImad}
+use Rattle.faim_base.specs.Limits.{longest_message}
+use Rattle.faim_base.specs.Numbers.{IsAmount, IsDay, IsMoment, IsSeq, greatest_amount, greatest_seq, last_day, last_minute}
+use Rattle.faim_base.specs.Ranges.{IsAba, IsEndpoint, IsImad}
 use Rattle.faim_base.specs.Text.{is_text_byte, is_endpoint, is_aba}
 use Rattle.faim_base.specs.declared.ids.Imad.{Imad}
-use Rattle.entry_codec.specs.Spelling.{imad_bytes, flag, body_bytes, IsAba, IsBody, IsMoment}
+use Rattle.entry_codec.specs.Spelling.{imad_bytes, flag, body_bytes}
+use Rattle.host_ledger.specs.Ranges.{IsBody}
 use Rattle.entry_codec.specs.Reading.{◌>>=◌, tested, piece_at, number_at, byte_at, date_at, moment_at, seq_at, cents_at, endpoint_at, aba_at, code_at, kind_at, flag_at, imad_at, body_at}
 use Rattle.entry_codec.proofs.Codecs.{IsBytes, Takes, then_takes, Reads, some_is, step, step_again, refit, tested_reads, piece_reads, byte_reads, reads16, reads32, reads64}
 
@@ -21,11 +24,11 @@ most_reads w limit reads most lt = refit (to_be_bytes w) (λ n. (n < limit) × I
 
 pub date_reads : Reads (to_be_bytes w32) IsDay date_at
 unfolding date_at
-date_reads = most_reads w32 (2 ^ 32) reads32 2921939 (omega arith)
+date_reads = most_reads w32 (2 ^ 32) reads32 last_day (omega arith)
 
 pub moment_reads : Reads (to_be_bytes w32) IsMoment moment_at
 unfolding moment_at
-moment_reads = most_reads w32 (2 ^ 32) reads32 4207593599 (omega arith)
+moment_reads = most_reads w32 (2 ^ 32) reads32 last_minute (omega arith)
 
 between : (n most : ℕ) → IsTrue (nat_le 1 n && nat_le n most) → (1 ≤ n) × (n ≤ most)
 between n most h = (grind (arith, nat_tests), grind (arith, nat_tests))
@@ -42,11 +45,11 @@ between_reads w limit reads most lt = refit (to_be_bytes w) (λ n. (n < limit) �
 
 pub seq_reads : Reads (to_be_bytes w32) IsSeq seq_at
 unfolding seq_at
-seq_reads = between_reads w32 (2 ^ 32) reads32 999999 (omega arith)
+seq_reads = between_reads w32 (2 ^ 32) reads32 greatest_seq (omega arith)
 
-pub cents_reads : Reads (to_be_bytes w64) (λ n. n ≤ 999999999999) cents_at
+pub cents_reads : Reads (to_be_bytes w64) IsAmount cents_at
 unfolding cents_at
-cents_reads = most_reads w64 (2 ^ 64) reads64 999999999999 (omega arith)
+cents_reads = most_reads w64 (2 ^ 64) reads64 greatest_amount (omega arith)
 
 pub endpoint_reads : Reads (λ (p : List ℕ). p) IsEndpoint endpoint_at
 unfolding endpoint_at
@@ -113,13 +116,13 @@ pub imad_reads : Reads imad_bytes IsImad imad_at
 imad_reads = record { takes = imad_takes; again = imad_again }
 
 abbrev IsLength : ℕ → Type 0
-IsLength n = (1 ≤ n) × (n ≤ 4234)
+IsLength n = (1 ≤ n) × (n ≤ longest_message)
 
 abbrev length_at : List ℕ → Option (ℕ × List ℕ)
-length_at bytes = tested (λ n. nat_le 1 n && nat_le n 4234) (number_at w16 bytes)
+length_at bytes = tested (λ n. nat_le 1 n && nat_le n longest_message) (number_at w16 bytes)
 
 length_reads : Reads (to_be_bytes w16) IsLength length_at
-length_reads = between_reads w16 (2 ^ 16) reads16 4234 (omega arith)
+length_reads = between_reads w16 (2 ^ 16) reads16 longest_message (omega arith)
 
 body_takes : (bytes : List ℕ) (x : List ℕ × List ℕ) → IsBytes bytes → body_at bytes ≡ Some x → Takes bytes (body_bytes x.0) x.1 × IsBody x.0
 unfolding body_at

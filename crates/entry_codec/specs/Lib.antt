@@ -1,3 +1,4 @@
 pub mod Config
 pub mod Reading
 pub mod Spelling
+pub mod Sizes

@@ -1,10 +1,6 @@
 -- The one spelling of an entry (docs/FORMATS.md, "Entries").
-use Rattle.std.specs.Prelude.{◌≡◌, ℕ, ◌≤◌, Bool, List, [], ◌∷◌, ◌++◌, length, IsTrue, if◌then◌else◌}
+use Rattle.std.specs.Prelude.{◌≡◌, ℕ, Bool, List, [], ◌∷◌, ◌++◌, length, if◌then◌else◌}
 use Rattle.std.specs.Int.{to_be_bytes, w16, w32, w64}
-use Rattle.std.specs.List.{list_all}
-use Rattle.faim_base.specs.Ranges.{IsDay, IsEndpoint, IsSeq, IsImad}
-use Rattle.faim_base.specs.Refusals.{is_recorded}
-use Rattle.faim_base.specs.Text.{is_text_byte, is_aba}
 use Rattle.faim_base.specs.declared.ids.Imad.{Imad}
 use Rattle.faim_base.specs.declared.judgement.Head.{Head}
 use Rattle.faim_base.specs.declared.judgement.Verdict.{Verdict}
@@ -34,36 +30,6 @@ body_bytes body = to_be_bytes w16 (length body) ++ body
 abbrev pub entry_bytes : Entry → List ℕ
 entry_bytes (Posted head body resent moment verdict) = 80 ∷ (head_bytes head ++ (flag resent ∷ [] ++ (to_be_bytes w32 moment ++ (verdict_bytes verdict ++ body_bytes body))))
 entry_bytes (Roll moment date) = 82 ∷ (to_be_bytes w32 moment ++ to_be_bytes w32 date)
-
--- nine digits
-abbrev pub IsAba : List ℕ → Type 0
-IsAba bytes = (length bytes ≡ 9) × IsTrue (is_aba bytes)
-
-pub record IsHead (h : Head) : Type 0 where
-  pub imad : IsImad h.imad
-  pub sender : IsAba h.sender
-  pub receiver : IsAba h.receiver
-  pub code : (length h.code ≡ 3) × IsTrue (list_all is_text_byte h.code)
-  pub kind : h.kind ≤ 99
-  pub sub : h.sub ≤ 99
-  pub amount : h.amount ≤ 999_999_999_999
-
--- an output's number, or a refusal that is kept
-abbrev pub IsVerdict : Verdict → Type 0
-IsVerdict (Taken dest seq) = IsEndpoint dest × IsSeq seq
-IsVerdict (Refused r) = IsTrue (is_recorded r)
-
--- 1 to 4,234 bytes
-abbrev pub IsBody : List ℕ → Type 0
-IsBody body = (1 ≤ length body) × (length body ≤ 4234)
-
-abbrev pub IsMoment : ℕ → Type 0
-IsMoment n = n ≤ 4_207_593_599
-
--- what has a spelling
-abbrev pub IsEntry : Entry → Type 0
-IsEntry (Posted head body resent moment verdict) = IsHead head × IsMoment moment × IsVerdict verdict × IsBody body
-IsEntry (Roll moment date) = IsMoment moment × IsDay date
 
 -- what stood there stays in front
 abbrev pub Keeps : List ℕ → List ℕ → Type 0

@@ -1,15 +1,14 @@
 // Configurations as bytes (docs/FORMATS.md, "Bytes of configurations").
 ghost use Rattle.std.specs.Prelude.{◌≡◌, ◌++◌, OnOk, OnErr};
 ghost use Rattle.std.specs.List.{flat_map};
+ghost use Rattle.host_ledger.specs.Soundness.{AreAccounts, IsConfig};
 ghost use Rattle.entry_codec.specs.Spelling.{Keeps};
-ghost use Rattle.entry_codec.specs.Config.{IsAccounts, IsConfig, config_bytes, accounts_bytes, account_bytes, balance_bytes};
+ghost use Rattle.entry_codec.specs.Config.{config_bytes, accounts_bytes, account_bytes, balance_bytes};
 
 use faim_base::NoMemory;
 use host_ledger::{Account, Accounts, Config};
 
-/// Appends the spelling of a configuration, or changes nothing. The configuration is one that has a spelling: `env` is
-/// `T` or `P`, a cutoff is at most 1,440 minutes, there are 1 to 1,024 accounts, and each opening balance and floor is
-/// from -999,999,999,999 to 999,999,999,999 cents. Check digits and what relates accounts to one another aren't asked.
+/// Appends the spelling of a configuration, or changes nothing. The configuration is sound: `Config::is_sound` says so.
 pub fn spell_config(value: &Config, out: &mut Vec<u8>) -> Result<(), NoMemory>
     requires { IsConfig value.now }
     ensures ok { OnOk result (out.new.items ≡ out.old.items ++ config_bytes value.now) }
@@ -42,7 +41,7 @@ fn put_config(value: &Config, out: &mut Vec<u8>) -> Result<(), NoMemory>
 
 // Appends how many accounts there are, and each of them.
 fn put_accounts(accounts: &Accounts, out: &mut Vec<u8>) -> Result<(), NoMemory>
-    requires { IsAccounts accounts.now }
+    requires { AreAccounts accounts.now }
     ensures ok { OnOk result (out.new.items ≡ out.old.items ++ accounts_bytes accounts.now) }
     ensures err { OnErr result (Keeps out.old.items out.new.items) }
 {

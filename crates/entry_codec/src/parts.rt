@@ -1,165 +1,140 @@
 // The parts of entries and configurations, each read from the front of some bytes.
-ghost use Rattle.std.specs.Prelude.{◌≡◌, ◌≤◌, Some, length};
+ghost use Rattle.std.specs.Prelude.{◌≡◌, Some, MatchResult};
 ghost use Rattle.std.specs.Int.{w16, w32, w64};
-ghost use Rattle.entry_codec.specs.Reading.{Gives, piece_at, number_at, byte_at, date_at, moment_at, seq_at, cents_at, endpoint_at, aba_at, code_at, kind_at, flag_at};
+ghost use Rattle.entry_codec.specs.Reading.{Gives, Fails, piece_at, number_at, byte_at, date_at, moment_at, seq_at, cents_at, endpoint_at, aba_at, code_at, kind_at, flag_at};
 
 use crate::CodecFault;
 use faim_base::{Aba, Cents, CycleDate, Endpoint, Moment, Seq, are_text};
 
-pub(crate) fn piece_of(bytes: &[u8], count: usize) -> Result<(&[u8], &[u8]), CodecFault>
-    ensures { Gives (λ x. (x.0.now, x.1.now)) result (piece_at count bytes.now) }
-{
-    if bytes.len() < count {
-        return Err(CodecFault::Damaged);
-    }
-    Ok(bytes.split_at(count))
+// Bytes that are read from their front on. Each call gives the value that stands there and leaves what is after it in
+// `rest`, or it fails.
+#[derive(Drop)]
+pub(crate) struct Front<'a> {
+    pub(crate) rest: &'a [u8],
 }
 
-pub(crate) fn byte_of(bytes: &[u8]) -> Result<(u8, &[u8]), CodecFault>
-    ensures { Gives (λ x. (x.0, x.1.now)) result (byte_at bytes.now) }
-{
-    match bytes {
-        [] => Err(CodecFault::Damaged),
-        [first, rest @ ..] => Ok((*first, rest)),
+impl<'a> Front<'a> {
+    pub(crate) fn piece(&mut self, count: usize) -> Result<&'a [u8], CodecFault>
+        ensures { MatchResult result (λ piece. piece_at count self.old.rest.now ≡ Some (piece.now, self.new.rest.now)) (λ fault. Fails fault (piece_at count self.old.rest.now)) }
+    {
+        if self.rest.len() < count {
+            return Err(CodecFault::Damaged);
+        }
+        let (piece, rest) = self.rest.split_at(count);
+        self.rest = rest;
+        Ok(piece)
     }
-}
 
-pub(crate) fn u16_of(bytes: &[u8]) -> Result<(u16, &[u8]), CodecFault>
-    ensures { Gives (λ x. (x.0, x.1.now)) result (number_at w16 bytes.now) }
-{
-    if bytes.len() < 2 {
-        return Err(CodecFault::Damaged);
+    pub(crate) fn array<const N: usize>(&mut self) -> Result<[u8; N], CodecFault>
+        ensures { Gives result (piece_at N self.old.rest.now) self.new.rest.now }
+    {
+        let mut array = [0; N];
+        array.copy_from_slice(self.piece(N)?);
+        Ok(array)
     }
-    let (front, rest) = bytes.split_at(2);
-    Ok((u16::from_be_bytes([front[0], front[1]]), rest))
-}
 
-pub(crate) fn u32_of(bytes: &[u8]) -> Result<(u32, &[u8]), CodecFault>
-    ensures { Gives (λ x. (x.0, x.1.now)) result (number_at w32 bytes.now) }
-{
-    if bytes.len() < 4 {
-        return Err(CodecFault::Damaged);
+    pub(crate) fn byte(&mut self) -> Result<u8, CodecFault>
+        ensures { Gives result (byte_at self.old.rest.now) self.new.rest.now }
+    {
+        match self.rest {
+            [] => Err(CodecFault::Damaged),
+            [first, rest @ ..] => {
+                self.rest = rest;
+                Ok(*first)
+            }
+        }
     }
-    let (front, rest) = bytes.split_at(4);
-    let number = u32::from_be_bytes([front[0], front[1], front[2], front[3]]);
-    Ok((number, rest))
-}
 
-pub(crate) fn u64_of(bytes: &[u8]) -> Result<(u64, &[u8]), CodecFault>
-    ensures { Gives (λ x. (x.0, x.1.now)) result (number_at w64 bytes.now) }
-{
-    if bytes.len() < 8 {
-        return Err(CodecFault::Damaged);
+    pub(crate) fn u16(&mut self) -> Result<u16, CodecFault>
+        ensures { Gives result (number_at w16 self.old.rest.now) self.new.rest.now }
+    {
+        Ok(u16::from_be_bytes(self.array()?))
     }
-    let (front, rest) = bytes.split_at(8);
-    let number = u64::from_be_bytes([
-        front[0], front[1], front[2], front[3], front[4], front[5], front[6], front[7],
-    ]);
-    Ok((number, rest))
-}
 
-#[tactic(auto, unfolding(crate::specs::Reading::date_at))]
-pub(crate) fn date_of(bytes: &[u8]) -> Result<(CycleDate, &[u8]), CodecFault>
-    ensures { Gives (λ x. (x.0, x.1.now)) result (date_at bytes.now) }
-{
-    let (number, rest) = u32_of(bytes)?;
-    match CycleDate::new(number) {
-        Some(date) => Ok((date, rest)),
-        None => Err(CodecFault::Damaged),
+    pub(crate) fn u32(&mut self) -> Result<u32, CodecFault>
+        ensures { Gives result (number_at w32 self.old.rest.now) self.new.rest.now }
+    {
+        Ok(u32::from_be_bytes(self.array()?))
     }
-}
 
-#[tactic(auto, unfolding(crate::specs::Reading::moment_at))]
-pub(crate) fn moment_of(bytes: &[u8]) -> Result<(Moment, &[u8]), CodecFault>
-    ensures { Gives (λ x. (x.0, x.1.now)) result (moment_at bytes.now) }
-{
-    let (number, rest) = u32_of(bytes)?;
-    match Moment::new(number) {
-        Some(moment) => Ok((moment, rest)),
-        None => Err(CodecFault::Damaged),
+    pub(crate) fn u64(&mut self) -> Result<u64, CodecFault>
+        ensures { Gives result (number_at w64 self.old.rest.now) self.new.rest.now }
+    {
+        Ok(u64::from_be_bytes(self.array()?))
     }
-}
 
-#[tactic(auto, unfolding(crate::specs::Reading::seq_at))]
-pub(crate) fn seq_of(bytes: &[u8]) -> Result<(Seq, &[u8]), CodecFault>
-    ensures { Gives (λ x. (x.0, x.1.now)) result (seq_at bytes.now) }
-{
-    let (number, rest) = u32_of(bytes)?;
-    match Seq::new(number) {
-        Some(seq) => Ok((seq, rest)),
-        None => Err(CodecFault::Damaged),
+    #[tactic(auto, unfolding(crate::specs::Reading::date_at))]
+    pub(crate) fn date(&mut self) -> Result<CycleDate, CodecFault>
+        ensures { Gives result (date_at self.old.rest.now) self.new.rest.now }
+    {
+        CycleDate::new(self.u32()?).ok_or(CodecFault::Damaged)
     }
-}
 
-#[tactic(auto, unfolding(crate::specs::Reading::cents_at))]
-pub(crate) fn cents_of(bytes: &[u8]) -> Result<(Cents, &[u8]), CodecFault>
-    ensures { Gives (λ x. (x.0, x.1.now)) result (cents_at bytes.now) }
-{
-    let (number, rest) = u64_of(bytes)?;
-    match Cents::new(number) {
-        Some(cents) => Ok((cents, rest)),
-        None => Err(CodecFault::Damaged),
+    #[tactic(auto, unfolding(crate::specs::Reading::moment_at))]
+    pub(crate) fn moment(&mut self) -> Result<Moment, CodecFault>
+        ensures { Gives result (moment_at self.old.rest.now) self.new.rest.now }
+    {
+        Moment::new(self.u32()?).ok_or(CodecFault::Damaged)
     }
-}
 
-#[tactic(auto, unfolding(crate::specs::Reading::endpoint_at))]
-pub(crate) fn endpoint_of(bytes: &[u8]) -> Result<(Endpoint, &[u8]), CodecFault>
-    ensures { Gives (λ x. (x.0, x.1.now)) result (endpoint_at bytes.now) }
-{
-    let (front, rest) = piece_of(bytes, 8)?;
-    let mut name = [0; 8];
-    name.copy_from_slice(front);
-    match Endpoint::read(&name) {
-        Some(endpoint) => Ok((endpoint, rest)),
-        None => Err(CodecFault::Damaged),
+    #[tactic(auto, unfolding(crate::specs::Reading::seq_at))]
+    pub(crate) fn seq(&mut self) -> Result<Seq, CodecFault>
+        ensures { Gives result (seq_at self.old.rest.now) self.new.rest.now }
+    {
+        Seq::new(self.u32()?).ok_or(CodecFault::Damaged)
     }
-}
 
-#[tactic(auto, unfolding(crate::specs::Reading::aba_at))]
-pub(crate) fn aba_of(bytes: &[u8]) -> Result<(Aba, &[u8]), CodecFault>
-    ensures { Gives (λ x. (x.0, x.1.now)) result (aba_at bytes.now) }
-{
-    let (front, rest) = piece_of(bytes, 9)?;
-    let mut digits = [0; 9];
-    digits.copy_from_slice(front);
-    match Aba::read(&digits) {
-        Some(aba) => Ok((aba, rest)),
-        None => Err(CodecFault::Damaged),
+    #[tactic(auto, unfolding(crate::specs::Reading::cents_at))]
+    pub(crate) fn cents(&mut self) -> Result<Cents, CodecFault>
+        ensures { Gives result (cents_at self.old.rest.now) self.new.rest.now }
+    {
+        Cents::new(self.u64()?).ok_or(CodecFault::Damaged)
     }
-}
 
-#[tactic(auto, unfolding(crate::specs::Reading::kind_at))]
-pub(crate) fn kind_of(bytes: &[u8]) -> Result<(u8, &[u8]), CodecFault>
-    ensures { Gives (λ x. (x.0, x.1.now)) result (kind_at bytes.now) }
-{
-    let (number, rest) = byte_of(bytes)?;
-    if number > 99 {
-        return Err(CodecFault::Damaged);
+    #[tactic(auto, unfolding(crate::specs::Reading::endpoint_at))]
+    pub(crate) fn endpoint(&mut self) -> Result<Endpoint, CodecFault>
+        ensures { Gives result (endpoint_at self.old.rest.now) self.new.rest.now }
+    {
+        Endpoint::read(&self.array()?).ok_or(CodecFault::Damaged)
     }
-    Ok((number, rest))
-}
 
-#[tactic(auto, unfolding(crate::specs::Reading::flag_at))]
-pub(crate) fn flag_of(bytes: &[u8]) -> Result<(bool, &[u8]), CodecFault>
-    ensures { Gives (λ x. (x.0, x.1.now)) result (flag_at bytes.now) }
-{
-    let (number, rest) = byte_of(bytes)?;
-    match number {
-        0 => Ok((false, rest)),
-        1 => Ok((true, rest)),
-        _ => Err(CodecFault::Damaged),
+    #[tactic(auto, unfolding(crate::specs::Reading::aba_at))]
+    pub(crate) fn aba(&mut self) -> Result<Aba, CodecFault>
+        ensures { Gives result (aba_at self.old.rest.now) self.new.rest.now }
+    {
+        Aba::read(&self.array()?).ok_or(CodecFault::Damaged)
     }
-}
 
-#[tactic(auto, unfolding(crate::specs::Reading::code_at))]
-pub(crate) fn code_of(bytes: &[u8]) -> Result<([u8; 3], &[u8]), CodecFault>
-    ensures { Gives (λ x. (x.0, x.1.now)) result (code_at bytes.now) }
-{
-    let (front, rest) = piece_of(bytes, 3)?;
-    if !are_text(front) {
-        return Err(CodecFault::Damaged);
+    #[tactic(auto, unfolding(crate::specs::Reading::kind_at))]
+    pub(crate) fn kind(&mut self) -> Result<u8, CodecFault>
+        ensures { Gives result (kind_at self.old.rest.now) self.new.rest.now }
+    {
+        let number = self.byte()?;
+        if number > 99 {
+            return Err(CodecFault::Damaged);
+        }
+        Ok(number)
     }
-    let mut code = [0; 3];
-    code.copy_from_slice(front);
-    Ok((code, rest))
+
+    #[tactic(auto, unfolding(crate::specs::Reading::flag_at))]
+    pub(crate) fn flag(&mut self) -> Result<bool, CodecFault>
+        ensures { Gives result (flag_at self.old.rest.now) self.new.rest.now }
+    {
+        match self.byte()? {
+            0 => Ok(false),
+            1 => Ok(true),
+            _ => Err(CodecFault::Damaged),
+        }
+    }
+
+    #[tactic(auto, unfolding(crate::specs::Reading::code_at))]
+    pub(crate) fn code(&mut self) -> Result<[u8; 3], CodecFault>
+        ensures { Gives result (code_at self.old.rest.now) self.new.rest.now }
+    {
+        let code = self.array()?;
+        if !are_text(&code) {
+            return Err(CodecFault::Damaged);
+        }
+        Ok(code)
+    }
 }

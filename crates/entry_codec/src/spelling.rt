@@ -1,6 +1,7 @@
 // Entries as bytes (docs/FORMATS.md, "Entries").
 ghost use Rattle.std.specs.Prelude.{◌≡◌, ◌++◌, OnOk, OnErr, length, ◌≤◌};
-ghost use Rattle.entry_codec.specs.Spelling.{IsEntry, Keeps, entry_bytes, head_bytes, verdict_bytes, imad_bytes};
+ghost use Rattle.entry_codec.specs.Spelling.{Keeps, entry_bytes, head_bytes, verdict_bytes, imad_bytes};
+ghost use Rattle.host_ledger.specs.Ranges.{IsEntry};
 
 use faim_base::{Head, Imad, NoMemory, Verdict};
 use host_ledger::Entry;

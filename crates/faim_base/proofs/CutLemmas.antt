@@ -3,7 +3,7 @@ use Rattle.std.proofs.Common.{◌≡◌, ℕ, ◌+◌, List, ◌++◌, length, t
 use Rattle.std.proofs.Math.Seq.{take-add}
 use Rattle.std.proofs.lemmas.List.{take_at, drop_at, drop-drop, take-append-drop}
 
--- what lies behind a part
+-- what lies after a part
 drop_next : (text part rest : List ℕ) (at n next : ℕ) → drop at text ≡ part ++ rest → length part ≡ n → at + n ≡ next → drop next text ≡ rest
 drop_next text part rest at n next e f g =
     rw (sym g, sym (drop-drop n at text), e) (drop_at part rest n f)

@@ -7,7 +7,7 @@ use Rattle.std.proofs.lemmas.Option.{cond_some}
 use Rattle.faim_base.specs.Text.{is_digit}
 use Rattle.faim_base.specs.Digits.{number_of, padded}
 use Rattle.faim_base.specs.Calendar.{days_in_year, days_in_month, days_of_years, days_of_months, day_number, is_date, read_date, civil_of, date_text}
-use Rattle.faim_base.specs.Ranges.{IsDay}
+use Rattle.faim_base.specs.Numbers.{IsDay}
 use Rattle.faim_base.proofs.CalendarLemmas.{IsDate, IsDate-from_test, civil_of-day_number, days_of_years-zero, days_of_years_more, days_of_months-zero, days_of_months_more, days_of_months_all}
 use Rattle.faim_base.proofs.DigitLemmas.{length-padded, list_all-padded, number_of-padded, padded-number_of}
 use Rattle.faim_base.proofs.EpochLemmas.{days_of_all_years, day_number_bound, date_of_is}

@@ -91,7 +91,7 @@ number_of-padded (suc i) n h =
     let bound : n < 10 * 10 ^ i = omega (arith, rw e at h, power_of_ten_more i) in
     rw (e, padded_more i n, number_of-push (padded i (n / 10)) (n % 10), number_of-padded i (n / 10) (omega arith)) (omega arith)
 
--- a digit behind the number so far is the last digit of the number
+-- a digit after the number so far is the last digit of the number
 last_digit : (m d : ℕ) → 48 ≤ d → d ≤ 57 → ((10 * m + (d - 48)) / 10 ≡ m) × (48 + (10 * m + (d - 48)) % 10 ≡ d)
 last_digit m d low high = (omega arith, omega arith)
 

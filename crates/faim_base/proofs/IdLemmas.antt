@@ -1,5 +1,5 @@
 -- Identifiers and their texts determine each other.
-use Rattle.std.proofs.Common.{◌≡◌, ℕ, ◌^◌, ◌<◌, ◌&&◌, Bool, true, false, if◌then◌else◌, Option, Some, None, Result, Ok, Err, bytes_eq, List, ◌++◌, length, length-append, take, drop, nat_le, refl, sym, ap, ◌∙◌, arith}
+use Rattle.std.proofs.Common.{ok_or, ◌≡◌, ℕ, ◌^◌, ◌<◌, ◌&&◌, Bool, true, false, if◌then◌else◌, Option, Some, None, Result, Ok, Err, bytes_eq, List, ◌++◌, length, length-append, take, drop, nat_le, refl, sym, ap, ◌∙◌, arith}
 use Rattle.std.specs.List.{list_all}
 use Rattle.std.proofs.lemmas.Bool.{and_parts, and_from, cond-true, leb-true, le-leb}
 use Rattle.std.proofs.lemmas.List.{take_at, drop_at, length-take-le, length-drop, take-append-drop}
@@ -8,8 +8,9 @@ use Rattle.std.proofs.lemmas.Slice.Eq.{bytes_eq-Decides}
 use Rattle.faim_base.specs.Text.{is_digit, is_endpoint, read_endpoint}
 use Rattle.faim_base.specs.Digits.{number_of, padded, read_seq}
 use Rattle.faim_base.specs.Calendar.{read_date, date_text, days_in_month}
-use Rattle.faim_base.specs.Ids.{or_fault, ◌>>=◌, imad_text, read_imad, position_of, position_text, read_position, is_stamp, stamp_text, stamp_in, read_stamp, application, omad_text, read_omad}
-use Rattle.faim_base.specs.Ranges.{IsEndpoint, IsSeq, IsImad, IsPosition, IsOmad}
+use Rattle.faim_base.specs.Ids.{◌>>=◌, imad_text, read_imad, position_of, position_text, read_position, is_stamp, stamp_text, stamp_in, read_stamp, application, omad_text, read_omad}
+use Rattle.faim_base.specs.Numbers.{IsSeq}
+use Rattle.faim_base.specs.Ranges.{IsEndpoint, IsImad, IsPosition, IsOmad}
 use Rattle.faim_base.specs.declared.ids.Imad.{Imad}
 use Rattle.faim_base.specs.declared.ids.Omad.{Omad}
 use Rattle.faim_base.specs.declared.ids.OutPos.{OutPos}
@@ -25,9 +26,9 @@ bind_ok : {A B E : Type 0} (r : Result A E) (f : A → Result B E) (y : B) → (
 bind_ok (Ok x) f y e = (x, refl, e)
 bind_ok (Err fault) f y e = absurd cc
 
-or_fault_ok : {A E : Type 0} (o : Option A) (fault : E) (x : A) → or_fault o fault ≡ Ok x → o ≡ Some x
-or_fault_ok (Some x) fault y e = cc
-or_fault_ok None fault y e = absurd cc
+ok_or_some : {A E : Type 0} (o : Option A) (fault : E) (x : A) → ok_or o fault ≡ Ok x → o ≡ Some x
+ok_or_some (Some x) fault y e = cc
+ok_or_some None fault y e = absurd cc
 
 -- message numbers
 read_seq-padded : (n : ℕ) → IsSeq n → read_seq (padded 6 n) ≡ Some n
@@ -85,15 +86,15 @@ read_imad-imad_text i h =
 
 pub imad_text-read_imad : (text : List ℕ) (i : Imad) → length text ≡ 22 → read_imad text ≡ Ok i → (imad_text i ≡ text) × IsImad i
 imad_text-read_imad text i size e =
-    let (d, e_d, rest_d) = bind_ok (or_fault (read_date (take 8 text)) BadDate) _ i e in
-    let (source, e_s, rest_s) = bind_ok (or_fault (read_endpoint (take 8 (drop 8 text))) BadSource) _ i rest_d in
-    let (n, e_n, rest_n) = bind_ok (or_fault (read_seq (drop 16 text)) BadSeq) _ i rest_s in
+    let (d, e_d, rest_d) = bind_ok (ok_or (read_date (take 8 text)) BadDate) _ i e in
+    let (source, e_s, rest_s) = bind_ok (ok_or (read_endpoint (take 8 (drop 8 text))) BadSource) _ i rest_d in
+    let (n, e_n, rest_n) = bind_ok (ok_or (read_seq (drop 16 text)) BadSeq) _ i rest_s in
     let date : i.date ≡ d = cc in
     let endpoint : i.source ≡ source = cc in
     let seq : i.seq ≡ n = cc in
-    let day = date_text-read_date (take 8 text) i.date (length-take-le 8 text (omega arith)) (or_fault_ok _ BadDate d e_d ∙ ap (λ (k : ℕ). Some k) (sym date)) in
-    let name = same-read_endpoint (take 8 (drop 8 text)) i.source (length-take-le 8 (drop 8 text) (omega (arith, length-drop 8 text))) (or_fault_ok _ BadSource source e_s ∙ ap (λ (k : List ℕ). Some k) (sym endpoint)) in
-    let number = padded-read_seq (drop 16 text) i.seq (omega (arith, length-drop 16 text)) (or_fault_ok _ BadSeq n e_n ∙ ap (λ (k : ℕ). Some k) (sym seq)) in
+    let day = date_text-read_date (take 8 text) i.date (length-take-le 8 text (omega arith)) (ok_or_some _ BadDate d e_d ∙ ap (λ (k : ℕ). Some k) (sym date)) in
+    let name = same-read_endpoint (take 8 (drop 8 text)) i.source (length-take-le 8 (drop 8 text) (omega (arith, length-drop 8 text))) (ok_or_some _ BadSource source e_s ∙ ap (λ (k : List ℕ). Some k) (sym endpoint)) in
+    let number = padded-read_seq (drop 16 text) i.seq (omega (arith, length-drop 16 text)) (ok_or_some _ BadSeq n e_n ∙ ap (λ (k : ℕ). Some k) (sym seq)) in
     (rw (day.0, name.0, number.0) (join_three text 8 8 16 refl), record { day = day.1; sender = name.1; number = number.1 })
 
 -- stamps
@@ -190,19 +191,19 @@ read_omad-omad_text o h =
 
 pub omad_text-read_omad : (text : List ℕ) (o : Omad) → length text ≡ 34 → read_omad text ≡ Ok o → (omad_text o ≡ text) × IsOmad o
 omad_text-read_omad text o size e =
-    let (d, e_d, rest_d) = bind_ok (or_fault (read_date (take 8 text)) BadDate) _ o e in
-    let (dest, e_r, rest_r) = bind_ok (or_fault (read_endpoint (take 8 (drop 8 text))) BadSource) _ o rest_d in
-    let (n, e_n, rest_n) = bind_ok (or_fault (read_seq (take 6 (drop 16 text))) BadSeq) _ o rest_r in
-    let (s, e_s, rest_s) = bind_ok (or_fault (read_stamp (take 8 (drop 22 text))) BadStamp) _ o rest_n in
+    let (d, e_d, rest_d) = bind_ok (ok_or (read_date (take 8 text)) BadDate) _ o e in
+    let (dest, e_r, rest_r) = bind_ok (ok_or (read_endpoint (take 8 (drop 8 text))) BadSource) _ o rest_d in
+    let (n, e_n, rest_n) = bind_ok (ok_or (read_seq (take 6 (drop 16 text))) BadSeq) _ o rest_r in
+    let (s, e_s, rest_s) = bind_ok (ok_or (read_stamp (take 8 (drop 22 text))) BadStamp) _ o rest_n in
     let last = chosen_ok (bytes_eq (drop 30 text) application) _ BadApplication o rest_s in
     let date : o.date ≡ d = cc in
     let receiver : o.dest ≡ dest = cc in
     let seq : o.seq ≡ n = cc in
     let moment : o.stamp ≡ s = cc in
     let named : application ≡ drop 30 text = sym ((bytes_eq-Decides (drop 30 text) application).0 last.0) in
-    let day = date_text-read_date (take 8 text) o.date (length-take-le 8 text (omega arith)) (or_fault_ok _ BadDate d e_d ∙ ap (λ (k : ℕ). Some k) (sym date)) in
-    let name = same-read_endpoint (take 8 (drop 8 text)) o.dest (length-take-le 8 (drop 8 text) (omega (arith, length-drop 8 text))) (or_fault_ok _ BadSource dest e_r ∙ ap (λ (k : List ℕ). Some k) (sym receiver)) in
-    let number = padded-read_seq (take 6 (drop 16 text)) o.seq (length-take-le 6 (drop 16 text) (omega (arith, length-drop 16 text))) (or_fault_ok _ BadSeq n e_n ∙ ap (λ (k : ℕ). Some k) (sym seq)) in
-    let stamped = stamp_text-read_stamp (take 8 (drop 22 text)) o.stamp (length-take-le 8 (drop 22 text) (omega (arith, length-drop 22 text))) (or_fault_ok _ BadStamp s e_s ∙ ap (λ (k : Stamp). Some k) (sym moment)) in
+    let day = date_text-read_date (take 8 text) o.date (length-take-le 8 text (omega arith)) (ok_or_some _ BadDate d e_d ∙ ap (λ (k : ℕ). Some k) (sym date)) in
+    let name = same-read_endpoint (take 8 (drop 8 text)) o.dest (length-take-le 8 (drop 8 text) (omega (arith, length-drop 8 text))) (ok_or_some _ BadSource dest e_r ∙ ap (λ (k : List ℕ). Some k) (sym receiver)) in
+    let number = padded-read_seq (take 6 (drop 16 text)) o.seq (length-take-le 6 (drop 16 text) (omega (arith, length-drop 16 text))) (ok_or_some _ BadSeq n e_n ∙ ap (λ (k : ℕ). Some k) (sym seq)) in
+    let stamped = stamp_text-read_stamp (take 8 (drop 22 text)) o.stamp (length-take-le 8 (drop 22 text) (omega (arith, length-drop 22 text))) (ok_or_some _ BadStamp s e_s ∙ ap (λ (k : Stamp). Some k) (sym moment)) in
     let is : IsOmad o = record { day = day.1; receiver = name.1; number = number.1; moment = stamped.1 } in
     (omad_joined text o day.0 name.0 number.0 stamped.0 named, is)

@@ -3,7 +3,7 @@ use Rattle.std.proofs.Common.{◌≡◌, ℕ, ◌+◌, ◌≤◌, List, ◌++◌
 use Rattle.std.proofs.lemmas.List.{take_at, drop_at, drop_all, drop-drop}
 use borrow.Rule.Slice.PartMut.{put_mid}
 
--- the part behind a front that is written
+-- the part after a front that is written
 pub put_next : (text front part : List ℕ) (at n next : ℕ) → length front ≡ at → at + n ≡ next → put_mid at n (front ++ drop at text) part ≡ front ++ part ++ drop next text
 put_next text front part at n next e f =
     rw (take_at front (drop at text) at e, drop_at front (drop at text) at e, drop-drop n at text, f) (sym (append_assoc front part (drop next text)))

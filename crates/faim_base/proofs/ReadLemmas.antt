@@ -1,5 +1,5 @@
 -- What follows from the numbers that the parts of a text spell.
-use Rattle.std.proofs.Common.{◌≡◌, ℕ, ◌+◌, ◌^◌, ◌<◌, ◌&&◌, Bool, true, false, if◌then◌else◌, Option, Some, None, Result, Ok, Err, bytes_eq, List, length, take, drop, nat_le, refl, sym, ap, ◌∙◌, arith}
+use Rattle.std.proofs.Common.{ok_or, ◌≡◌, ℕ, ◌+◌, ◌^◌, ◌<◌, ◌&&◌, Bool, true, false, if◌then◌else◌, Option, Some, None, Result, Ok, Err, bytes_eq, List, length, take, drop, nat_le, refl, sym, ap, ◌∙◌, arith}
 use Rattle.std.specs.List.{list_all}
 use Rattle.std.proofs.Math.Seq.{take-length}
 use Rattle.std.proofs.lemmas.Bool.{and_parts, le-leb}
@@ -14,7 +14,7 @@ use Rattle.faim_base.specs.declared.ids.Imad.{Imad}
 use Rattle.faim_base.specs.declared.ids.Omad.{Omad}
 use Rattle.faim_base.specs.declared.ids.IdFault.{IdFault}
 use Rattle.faim_base.specs.declared.ids.IdFault.TheVariants.{BadDate, BadSource, BadSeq, BadStamp, BadApplication}
-use Rattle.faim_base.specs.Ids.{stamp_in, is_stamp, read_stamp, position_of, read_position, or_fault, ◌>>=◌, read_imad, application, read_omad}
+use Rattle.faim_base.specs.Ids.{stamp_in, is_stamp, read_stamp, position_of, read_position, ◌>>=◌, read_imad, application, read_omad}
 use Rattle.faim_base.proofs.DigitLemmas.{number_of_lt}
 
 -- a text of digits that spell a number
@@ -104,7 +104,7 @@ read_position_is text d n e f g =
 -- the IMAD, or the fault of the first part that isn't one
 abbrev pub imad_of : Option ℕ → Option (List ℕ) → Option ℕ → Result Imad IdFault
 imad_of date source seq =
-    or_fault date BadDate >>= λ d. or_fault source BadSource >>= λ e. or_fault seq BadSeq >>= λ n.
+    ok_or date BadDate >>= λ d. ok_or source BadSource >>= λ e. ok_or seq BadSeq >>= λ n.
     Ok (record { date = d; source = e; seq = n })
 
 pub read_imad_is : (text : List ℕ) (d : Option ℕ) (e : Option (List ℕ)) (n : Option ℕ) → length text ≡ 22 → d ≡ read_date (take 8 text) → e ≡ read_endpoint (take 8 (drop 8 text)) → n ≡ read_seq (take 6 (drop 16 text)) → imad_of d e n ≡ read_imad text
@@ -115,7 +115,7 @@ read_imad_is text d e n l f g h =
 -- the OMAD, or the fault of the first part that isn't one
 abbrev pub omad_of : Option ℕ → Option (List ℕ) → Option ℕ → Option Stamp → Bool → Result Omad IdFault
 omad_of date dest seq stamp is_application =
-    or_fault date BadDate >>= λ d. or_fault dest BadSource >>= λ e. or_fault seq BadSeq >>= λ n. or_fault stamp BadStamp >>= λ s.
+    ok_or date BadDate >>= λ d. ok_or dest BadSource >>= λ e. ok_or seq BadSeq >>= λ n. ok_or stamp BadStamp >>= λ s.
     if is_application then Ok (record { date = d; dest = e; seq = n; stamp = s }) else Err BadApplication
 
 pub read_omad_is : (text : List ℕ) (d : Option ℕ) (e : Option (List ℕ)) (n : Option ℕ) (s : Option Stamp) (is : Bool) → length text ≡ 34 → d ≡ read_date (take 8 text) → e ≡ read_endpoint (take 8 (drop 8 text)) → n ≡ read_seq (take 6 (drop 16 text)) → s ≡ read_stamp (take 8 (drop 22 text)) → is ≡ bytes_eq (take 4 (drop 30 text)) application → omad_of d e n s is ≡ read_omad text

@@ -47,7 +47,7 @@ pub record Civil : Type 0 where
   pub month : ℕ
   pub day : ℕ
 
--- the date that many days behind the first of a month, where at most so many months are gone through
+-- the date that many days after the first of a month, where at most so many months are gone through
 unfoldable pub date_in_year : ℕ → ℕ → ℕ → ℕ → Civil
 date_in_year zero y m n = record { year = y; month = m; day = n + 1 }
 date_in_year (suc more) y m n = elim (nat_lt n (days_in_month y m)) [
@@ -55,7 +55,7 @@ date_in_year (suc more) y m n = elim (nat_lt n (days_in_month y m)) [
   | false ↦ date_in_year more y (m + 1) (n - days_in_month y m)
 ]
 
--- the date that many days behind 1 January of a year, where at most so many years are gone through
+-- the date that many days after 1 January of a year, where at most so many years are gone through
 unfoldable pub date_from : ℕ → ℕ → ℕ → Civil
 date_from zero y n = date_in_year 11 y 1 n
 date_from (suc more) y n = elim (nat_lt n (days_in_year y)) [

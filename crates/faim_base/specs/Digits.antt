@@ -19,6 +19,6 @@ unfoldable pub padded : ℕ → ℕ → List ℕ
 padded zero n = []
 padded (suc width) n = padded width (n / 10) ++ (48 + n % 10) ∷ []
 
--- a message number, 000001 to 999999
+-- the message number that six digits spell
 abbrev pub read_seq : List ℕ → Option ℕ
 read_seq text = if list_all is_digit text && nat_le 1 (number_of text) then Some (number_of text) else None

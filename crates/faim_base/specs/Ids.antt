@@ -1,5 +1,5 @@
 -- The texts of message identifiers (docs/FORMATS.md, "Identifiers").
-use Rattle.std.specs.Prelude.{ℕ, ◌/◌, ◌%◌, ◌&&◌, nat_le, Bool, List, ◌++◌, take, drop, codes, bytes_eq, Option, Some, None, Result, Ok, Err, if◌then◌else◌}
+use Rattle.std.specs.Prelude.{ℕ, ◌/◌, ◌%◌, ◌==◌, ◌&&◌, ◌||◌, nat_le, nat_lt, Bool, List, ◌++◌, take, drop, codes, bytes_eq, Option, Some, None, ok_or, Result, Ok, Err, if◌then◌else◌}
 use Rattle.std.specs.List.{list_all}
 use Rattle.faim_base.specs.Text.{is_digit, read_endpoint}
 use Rattle.faim_base.specs.Digits.{number_of, padded, read_seq}
@@ -16,26 +16,25 @@ abbrev pub ◌>>=◌ : {A B E : Type 0} → Result A E → (A → Result B E) �
 (Ok x) >>= f = f x
 (Err e) >>= f = Err e
 
--- a value, or the fault that it isn't there
-abbrev pub or_fault : {A E : Type 0} → Option A → E → Result A E
-or_fault (Some x) e = Ok x
-or_fault None e = Err e
-
 -- 22 bytes: date, source, number
 abbrev pub imad_text : Imad → List ℕ
 imad_text i = date_text i.date ++ i.source ++ padded 6 i.seq
 
 -- the IMAD of 22 bytes, or the first part that isn't one
 abbrev pub read_imad : List ℕ → Result Imad IdFault
-read_imad text =
-    or_fault (read_date (take 8 text)) BadDate >>= λ d.
-    or_fault (read_endpoint (take 8 (drop 8 text))) BadSource >>= λ e.
-    or_fault (read_seq (drop 16 text)) BadSeq >>= λ n.
-    Ok (record { date = d; source = e; seq = n })
+read_imad text = do
+  d ← ok_or (read_date (take 8 text)) BadDate
+  e ← ok_or (read_endpoint (take 8 (drop 8 text))) BadSource
+  n ← ok_or (read_seq (drop 16 text)) BadSeq
+  Ok (record { date = d; source = e; seq = n })
 
 -- 14 bytes: date, number
 abbrev pub position_text : OutPos → List ℕ
 position_text p = date_text p.date ++ padded 6 p.seq
+
+-- the order of positions: by date, then number
+abbrev pub is_up_to : OutPos → OutPos → Bool
+is_up_to p q = nat_lt p.date q.date || ((p.date == q.date) && nat_le p.seq q.seq)
 
 abbrev pub position_of : Option ℕ → Option ℕ → Option OutPos
 position_of (Some d) (Some n) = Some (record { date = d; seq = n })
@@ -83,9 +82,9 @@ omad_text o = date_text o.date ++ o.dest ++ padded 6 o.seq ++ stamp_text o.stamp
 
 -- the OMAD of 34 bytes, or the first part that isn't one
 abbrev pub read_omad : List ℕ → Result Omad IdFault
-read_omad text =
-    or_fault (read_date (take 8 text)) BadDate >>= λ d.
-    or_fault (read_endpoint (take 8 (drop 8 text))) BadSource >>= λ e.
-    or_fault (read_seq (take 6 (drop 16 text))) BadSeq >>= λ n.
-    or_fault (read_stamp (take 8 (drop 22 text))) BadStamp >>= λ s.
-    if bytes_eq (drop 30 text) application then Ok (record { date = d; dest = e; seq = n; stamp = s }) else Err BadApplication
+read_omad text = do
+  d ← ok_or (read_date (take 8 text)) BadDate
+  e ← ok_or (read_endpoint (take 8 (drop 8 text))) BadSource
+  n ← ok_or (read_seq (take 6 (drop 16 text))) BadSeq
+  s ← ok_or (read_stamp (take 8 (drop 22 text))) BadStamp
+  if bytes_eq (drop 30 text) application then Ok (record { date = d; dest = e; seq = n; stamp = s }) else Err BadApplication

@@ -1,5 +1,7 @@
 pub mod Text
 pub mod Digits
+pub mod Numbers
+pub mod Limits
 pub mod Calendar
 pub mod Ids
 pub mod Ranges

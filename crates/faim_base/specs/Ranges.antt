@@ -1,22 +1,19 @@
 -- The ranges of the parts of identifiers (docs/FORMATS.md, "Identifiers").
-use Rattle.std.specs.Prelude.{◌≡◌, ℕ, ◌≤◌, List, length, IsTrue}
-use Rattle.faim_base.specs.Text.{is_endpoint}
+use Rattle.std.specs.Prelude.{◌≡◌, ℕ, List, length, IsTrue}
+use Rattle.faim_base.specs.Numbers.{IsDay, IsSeq}
+use Rattle.faim_base.specs.Text.{is_endpoint, is_aba}
 use Rattle.faim_base.specs.Ids.{is_stamp}
 use Rattle.faim_base.specs.declared.ids.Imad.{Imad}
 use Rattle.faim_base.specs.declared.ids.Omad.{Omad}
 use Rattle.faim_base.specs.declared.ids.OutPos.{OutPos}
 
--- a day from 2000-01-01 to 9999-12-31
-abbrev pub IsDay : ℕ → Type 0
-IsDay n = n ≤ 2_921_939
-
 -- eight bytes that may stand in a name
 abbrev pub IsEndpoint : List ℕ → Type 0
 IsEndpoint bytes = (length bytes ≡ 8) × IsTrue (is_endpoint bytes)
 
--- a message number
-abbrev pub IsSeq : ℕ → Type 0
-IsSeq n = (1 ≤ n) × (n ≤ 999_999)
+-- nine digits
+abbrev pub IsAba : List ℕ → Type 0
+IsAba bytes = (length bytes ≡ 9) × IsTrue (is_aba bytes)
 
 pub record IsImad (i : Imad) : Type 0 where
   pub day : IsDay i.date

@@ -31,8 +31,8 @@ pub fn are_digits(bytes: &[u8]) -> bool
     bytes.iter().all(|b| is_digit(*b))
 }
 
-// A text byte that is no blank.
-pub(crate) fn is_name_byte(b: u8) -> bool
+/// True exactly where the byte is a text byte and no blank, as each byte of an endpoint is (docs/FORMATS.md, "Bytes").
+pub fn is_name_byte(b: u8) -> bool
     ensures { result ≡ is_name_byte b }
 {
     is_text_byte(b) && b != b' '

@@ -1,7 +1,7 @@
 // Message identifiers, positions of outputs, and stamps (docs/FORMATS.md, "Identifiers").
 ghost use Rattle.std.specs.Prelude.{◌≡◌, IsTrue, length, bytes_eq};
 ghost use Rattle.faim_base.specs.Ranges.{IsEndpoint};
-ghost use Rattle.faim_base.specs.Ids.{read_imad, imad_text, read_position, position_text, read_omad, omad_text, read_stamp, stamp_text, is_stamp, application};
+ghost use Rattle.faim_base.specs.Ids.{read_imad, imad_text, read_position, position_text, is_up_to, read_omad, omad_text, read_stamp, stamp_text, is_stamp, application};
 ghost use Rattle.faim_base.specs.Calendar.{days_in_month};
 
 use crate::calendar::{date_in, write_date};
@@ -83,6 +83,13 @@ impl OutPos {
         let date = date_in(&text[..8])?;
         let seq = seq_in(&text[8..14])?;
         Some(OutPos { date, seq })
+    }
+
+    /// Whether this position is the other or one before it: positions are ordered by date, then number.
+    pub fn is_up_to(&self, other: &OutPos) -> bool
+        ensures { result ≡ is_up_to self.now other.now }
+    {
+        self <= other
     }
 
     /// Writes the 14 bytes.

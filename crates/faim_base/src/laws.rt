@@ -2,7 +2,8 @@
 ghost use Rattle.std.specs.Prelude.{◌≡◌, ℕ, List, length, Some, Ok};
 ghost use Rattle.faim_base.specs.Calendar.{date_text, read_date};
 ghost use Rattle.faim_base.specs.Ids.{imad_text, read_imad, omad_text, read_omad, position_text, read_position};
-ghost use Rattle.faim_base.specs.Ranges.{IsDay, IsImad, IsOmad, IsPosition};
+ghost use Rattle.faim_base.specs.Numbers.{IsDay};
+ghost use Rattle.faim_base.specs.Ranges.{IsImad, IsOmad, IsPosition};
 ghost use Rattle.faim_base.specs.declared.ids.Imad.{Imad};
 ghost use Rattle.faim_base.specs.declared.ids.Omad.{Omad};
 ghost use Rattle.faim_base.specs.declared.ids.OutPos.{OutPos};

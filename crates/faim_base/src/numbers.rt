@@ -1,5 +1,6 @@
 // Numbers with their ranges.
-ghost use Rattle.std.specs.Prelude.{◌≡◌, ◌≤◌, ◌&&◌, nat_le, Some, None, if◌then◌else◌, length};
+ghost use Rattle.std.specs.Prelude.{◌≡◌, Some, None, if◌then◌else◌, length};
+ghost use Rattle.faim_base.specs.Numbers.{is_seq, IsSeq, is_amount, IsAmount, is_day, IsDay, is_moment, IsMoment};
 ghost use Rattle.faim_base.specs.Digits.{read_seq};
 
 use crate::digits;
@@ -10,13 +11,14 @@ use std::marker::Model;
 pub struct Seq(u32);
 
 impl Model for Seq {
-    ghost use Rattle.std.specs.Prelude.{ℕ, ◌≤◌};
+    ghost use Rattle.std.specs.Prelude.{ℕ};
+    ghost use Rattle.faim_base.specs.Numbers.{IsSeq};
 
     ghost Value = { ℕ };
 
     ghost view = { λ n. n.0 };
 
-    ghost invariant = { λ n. (1 ≤ n.0) × (n.0 ≤ 999_999) };
+    ghost invariant = { λ n. IsSeq n.0 };
 
     ghost inverse = { λ n. record { 0 = n } };
 }
@@ -24,7 +26,7 @@ impl Model for Seq {
 impl Seq {
     /// None exactly where n is 0 or over 999,999.
     pub fn new(n: u32) -> Option<Seq>
-        ensures { result ≡ (if nat_le 1 n && nat_le n 999_999 then Some n else None) }
+        ensures { result ≡ (if is_seq n then Some n else None) }
     {
         if 1 <= n && n <= 999_999 {
             Some(Seq(n))
@@ -36,8 +38,7 @@ impl Seq {
     /// The number.
     pub fn get(self) -> u32
         ensures value { result ≡ self }
-        ensures from_one { 1 ≤ result }
-        ensures range { result ≤ 999_999 }
+        ensures range { IsSeq result }
     {
         self.0
     }
@@ -48,13 +49,14 @@ impl Seq {
 pub struct Cents(u64);
 
 impl Model for Cents {
-    ghost use Rattle.std.specs.Prelude.{ℕ, ◌≤◌};
+    ghost use Rattle.std.specs.Prelude.{ℕ};
+    ghost use Rattle.faim_base.specs.Numbers.{IsAmount};
 
     ghost Value = { ℕ };
 
     ghost view = { λ n. n.0 };
 
-    ghost invariant = { λ n. n.0 ≤ 999_999_999_999 };
+    ghost invariant = { λ n. IsAmount n.0 };
 
     ghost inverse = { λ n. record { 0 = n } };
 }
@@ -62,7 +64,7 @@ impl Model for Cents {
 impl Cents {
     /// None exactly where n is over 999,999,999,999.
     pub fn new(n: u64) -> Option<Cents>
-        ensures { result ≡ (if nat_le n 999_999_999_999 then Some n else None) }
+        ensures { result ≡ (if is_amount n then Some n else None) }
     {
         if n <= 999_999_999_999 {
             Some(Cents(n))
@@ -74,7 +76,7 @@ impl Cents {
     /// The number of cents.
     pub fn get(self) -> u64
         ensures value { result ≡ self }
-        ensures range { result ≤ 999_999_999_999 }
+        ensures range { IsAmount result }
     {
         self.0
     }
@@ -85,13 +87,14 @@ impl Cents {
 pub struct CycleDate(u32);
 
 impl Model for CycleDate {
-    ghost use Rattle.std.specs.Prelude.{ℕ, ◌≤◌};
+    ghost use Rattle.std.specs.Prelude.{ℕ};
+    ghost use Rattle.faim_base.specs.Numbers.{IsDay};
 
     ghost Value = { ℕ };
 
     ghost view = { λ n. n.0 };
 
-    ghost invariant = { λ n. n.0 ≤ 2_921_939 };
+    ghost invariant = { λ n. IsDay n.0 };
 
     ghost inverse = { λ n. record { 0 = n } };
 }
@@ -99,7 +102,7 @@ impl Model for CycleDate {
 impl CycleDate {
     /// None exactly where n is over 2,921,939.
     pub fn new(n: u32) -> Option<CycleDate>
-        ensures { result ≡ (if nat_le n 2_921_939 then Some n else None) }
+        ensures { result ≡ (if is_day n then Some n else None) }
     {
         if n <= 2_921_939 {
             Some(CycleDate(n))
@@ -111,7 +114,7 @@ impl CycleDate {
     /// The number of days.
     pub fn get(self) -> u32
         ensures value { result ≡ self }
-        ensures range { result ≤ 2_921_939 }
+        ensures range { IsDay result }
     {
         self.0
     }
@@ -122,13 +125,14 @@ impl CycleDate {
 pub struct Moment(u32);
 
 impl Model for Moment {
-    ghost use Rattle.std.specs.Prelude.{ℕ, ◌≤◌};
+    ghost use Rattle.std.specs.Prelude.{ℕ};
+    ghost use Rattle.faim_base.specs.Numbers.{IsMoment};
 
     ghost Value = { ℕ };
 
     ghost view = { λ n. n.0 };
 
-    ghost invariant = { λ n. n.0 ≤ 4_207_593_599 };
+    ghost invariant = { λ n. IsMoment n.0 };
 
     ghost inverse = { λ n. record { 0 = n } };
 }
@@ -136,7 +140,7 @@ impl Model for Moment {
 impl Moment {
     /// None exactly where n is over 4,207,593,599.
     pub fn new(n: u32) -> Option<Moment>
-        ensures { result ≡ (if nat_le n 4_207_593_599 then Some n else None) }
+        ensures { result ≡ (if is_moment n then Some n else None) }
     {
         if n <= 4_207_593_599 {
             Some(Moment(n))
@@ -148,7 +152,7 @@ impl Moment {
     /// The number of minutes.
     pub fn get(self) -> u32
         ensures value { result ≡ self }
-        ensures range { result ≤ 4_207_593_599 }
+        ensures range { IsMoment result }
     {
         self.0
     }

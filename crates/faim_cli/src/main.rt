@@ -1,63 +1,46 @@
 //! The program: real objects for the top call, and its status as the exit status.
 #![tactic(auto)]
 
+ghost use Rattle.std.specs.Prelude.{◌≡◌};
+ghost use Rattle.std.specs.Process.{exit_status};
+ghost use Rattle.faim_top.specs.ExitCodes.{code_of};
+
 mod adapters;
+mod between;
 #[cfg(test)]
 mod tests;
 
-use adapters::{StdSink, StdSource};
-use faim_top::{Status, run};
+use between::run_between;
+use faim_top::{Status, words_after_name};
 use std::env;
-use std::io::ErrorKind;
 use std::process::ExitCode;
 use std::rt::Env;
 
 fn main(rt: HostRuntime) -> ExitCode {
-    let status = match words(&rt) {
-        Ok(words) => {
-            let mut input = StdSource::new(rt.stdin());
-            let mut out = StdSink::new(rt.stdout());
-            run(rt.alloc(), words.as_slice(), &mut input, &mut out)
+    let status = match all_words(&rt) {
+        Ok(all) => {
+            let words = words_after_name(all.as_slice());
+            run_between(rt.alloc(), words, rt.stdin(), rt.stdout()).status
         }
         Err(status) => status,
     };
-    tell(&rt, &status);
+    told(&rt, &status)
+}
+
+// The words of the command line, the program's name first, or how the run ends without them.
+fn all_words<R: Env + AllocGlobal>(rt: &R) -> Result<Vec<String>, Status> {
+    match env::args(rt) {
+        Ok(all) => all.collect(rt.alloc()).map_err(|_| Status::NoMemory),
+        Err(error) => Err(Status::without_words(error.kind())),
+    }
+}
+
+// Tells on standard error how the run ended, where it isn't done, and gives the exit status.
+fn told(rt: &impl Eprint, status: &Status) -> ExitCode
+    ensures { exit_status result ≡ code_of status.now }
+{
+    if let Some(line) = status.error_line() {
+        let _ = rt.eprintln(line);
+    }
     ExitCode::from(status.code())
-}
-
-// The words behind the program's name, or how the run ends without them: a word that is no text is in no command.
-fn words<R: Env + AllocGlobal>(rt: &R) -> Result<Vec<String>, Status> {
-    let all = match env::args(rt) {
-        Ok(all) => all,
-        Err(error) => return Err(lacking(error.kind())),
-    };
-    let mut words = Vec::new(rt.alloc());
-    let mut is_name = true;
-    for word in all {
-        if !is_name && words.push(word).is_err() {
-            return Err(Status::NoMemory);
-        }
-        is_name = false;
-    }
-    Ok(words)
-}
-
-fn lacking(kind: ErrorKind) -> Status {
-    match kind {
-        ErrorKind::OutOfMemory => Status::NoMemory,
-        _ => Status::Usage,
-    }
-}
-
-// Says on standard error how the run ended, where it isn't done (docs/FORMATS.md, "Exit statuses").
-fn tell(rt: &impl Eprint, status: &Status) {
-    let line = match status {
-        Status::Done => return,
-        Status::Usage => "faim: usage",
-        Status::Refused(_) => "faim: refused",
-        Status::NoMemory => "faim: no memory",
-        Status::ReadFault => "faim: read fault",
-        Status::WriteFault => "faim: write fault",
-    };
-    let _ = rt.eprintln(line);
 }

@@ -1,7 +1,10 @@
 // What standard input and output are read and written through, over bytes in memory.
 use crate::adapters::{StdSink, StdSource};
+use crate::between::run_between;
 use faim_base::Failed;
+use faim_top::Status;
 use site_core::{Sink, Source};
+use std::test::Fail;
 
 #[test]
 fn a_source_gives_what_its_reader_gives(rt: HostRuntime) {
@@ -21,4 +24,40 @@ fn a_writer_that_takes_nothing_has_failed(rt: HostRuntime) {
     assert_eq!(rt; sink.write(b"mess"), Ok(4));
     assert_eq!(rt; sink.write(b"age"), Ok(1));
     assert_eq!(rt; sink.write(b"ge"), Err(Failed));
+}
+
+#[test]
+fn a_run_goes_from_its_reader_to_its_writer(rt: HostRuntime) -> Result<(), Fail> {
+    let message =
+        b"{1500}30USERREQ1T {1510}1000{1520}20240102BANKA001000001{2000}000000150000{3100}021000021ALPHA BANK*{3400}121042882BETA BANK*{3600}BTR";
+    let mut words = Vec::new(rt.alloc());
+    words.push("check".to_string(rt.alloc())?)?;
+    let ran = run_between(
+        rt.alloc(),
+        words.as_slice(),
+        message.as_slice(),
+        Vec::new(rt.alloc()),
+    );
+    assert_eq!(rt; ran.status, Status::Done);
+    assert!(rt; ran.reader.is_empty());
+    let (line, rest) = ran.writer.as_slice().split_at(9);
+    assert_eq!(rt; line, b"accepted\n".as_slice());
+    assert_eq!(rt; rest, message.as_slice());
+    Ok(())
+}
+
+#[test]
+fn a_writer_without_room_ends_a_run(rt: HostRuntime) -> Result<(), Fail> {
+    let mut words = Vec::new(rt.alloc());
+    words.push("replay".to_string(rt.alloc())?)?;
+    let mut room = [0; 5];
+    let ran = run_between(
+        rt.alloc(),
+        words.as_slice(),
+        b"".as_slice(),
+        room.as_mut_slice(),
+    );
+    assert_eq!(rt; ran.status, Status::WriteFault);
+    assert_eq!(rt; room, *b"line ");
+    Ok(())
 }

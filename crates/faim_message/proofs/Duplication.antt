@@ -1,4 +1,4 @@
--- A message with another duplication code.
+-- A message with another mark.
 use Rattle.std.proofs.Common.{◌≡◌, ℕ, zero, suc, true, false, get_or, set, List, [], ◌∷◌, refl, sym, subst}
 use Rattle.std.proofs.lemmas.Bool.{and_parts, and_from, eqb-true}
 use Rattle.faim_base.specs.Text.{is_text_byte}
@@ -38,7 +38,7 @@ mark_is_text Draft = refl
 mark_is_text Output = refl
 mark_is_text Ack = refl
 
--- the duplication code of a message may be any text byte
+-- the mark of a message may be any text byte
 pub takes_mark : (form : Form) (tags : List Tag) (d : Tag) → AreTags form tags → get_or (classes (get_or tags 0 d).no) (mark_place form) 0 ≡ 116
 takes_mark form [] d a = absurd (let wrong : false ≡ true = a.led in cc)
 takes_mark form (v ∷ tags) d a =

@@ -1,6 +1,6 @@
 -- The tag with a number.
 use Rattle.std.proofs.Common.{◌≡◌, ℕ, Bool, true, false, cond, eqb, ◌||◌, List, [], ◌∷◌, Some, None, refl, sym, ap, ◌∙◌}
-use Rattle.std.specs.Prelude.{◌==◌}
+use Rattle.std.specs.Prelude.{◌==◌, is_some}
 use Rattle.std.specs.List.{find}
 use Rattle.std.proofs.lemmas.Bool.{eqb-true}
 use Rattle.faim_tags.specs.Spelling.{Tag}
@@ -24,3 +24,12 @@ found_there n (w ∷ tags) e f = here (λ h k. found_there n tags h k) (eqb w.no
     here : (is_among (numbers tags) n ≡ true → find (λ w. w.no == n) tags ≡ None → ⊥) → (b : Bool) → b || is_among (numbers tags) n ≡ true → cond b (Some w) (find (λ w. w.no == n) tags) ≡ None → ⊥
     here more true e f = absurd cc
     here more false e f = more e f
+
+-- a number is there exactly where it is found
+pub finds_among : (n : ℕ) (tags : List Tag) → is_some (find (λ w. w.no == n) tags) ≡ is_among (numbers tags) n
+finds_among n [] = refl
+finds_among n (w ∷ tags) = here (eqb w.no n) (finds_among n tags)
+  where
+    here : (b : Bool) → is_some (find (λ v. v.no == n) tags) ≡ is_among (numbers tags) n → is_some (cond b (Some w) (find (λ v. v.no == n) tags)) ≡ b || is_among (numbers tags) n
+    here true more = refl
+    here false more = more

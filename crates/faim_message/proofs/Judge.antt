@@ -12,11 +12,11 @@ use Rattle.faim_tags.proofs.Meaning.{start as tag_start}
 use Rattle.faim_message.specs.declared.form.Form.{Form}
 use Rattle.faim_message.specs.declared.form.Form.TheVariants.{Input, Draft, Output, Ack}
 use Rattle.faim_message.specs.declared.form.Breaks.{Breaks}
-use Rattle.faim_message.specs.declared.kind.Kind.TheVariants.{Unknown}
-use Rattle.faim_message.specs.Forms.{mandatory, between, behind}
+use Rattle.faim_message.specs.declared.so_far.BreakSoFar.TheVariants.{Unknown}
+use Rattle.faim_message.specs.Forms.{mandatory, between, ending}
 use Rattle.faim_message.specs.Spelling.{Content, AreTags, numbers, is_complete, joined, Spells}
 use Rattle.faim_message.specs.Refusal.{Begins, StopsAt, EndsWhole, Refuses, missing}
-use Rattle.faim_message.specs.Stages.{open_numbers, Stage, start, next, reads, is_whole, tags_of, content_of, BreaksAt, Halts, Ends, Fails}
+use Rattle.faim_message.specs.Stages.{open_numbers, Stage, start, next, reads, is_whole, tags_of, content_of, BarredAt, Halts, Ends, Fails}
 use Rattle.faim_message.proofs.Numbers.{open_listed}
 use Rattle.faim_message.proofs.Flow.{onward, reads-append, reads-then, reads_cases, IsAt}
 use Rattle.faim_message.proofs.Goes.{reads-good, good-begins-message, whole-here}
@@ -41,7 +41,7 @@ pub front-reads : (form : Form) (s : Stage) (a b : List ℕ) (t : Stage) → rea
 front-reads form s a b t e = somewhere form b (reads form s a) t (sym (reads-append form s a b) ∙ e)
 
 -- tags that keep the rules are read to their end
-pub tags_arrive : (form : Form) (tags : List Tag) (breaks : Breaks) → AreTags form tags → (last : Stage) × (reads form start (joined (between breaks) (behind breaks) tags) ≡ Some last) × (is_whole last ≡ true) × (tags_of last ≡ tags)
+pub tags_arrive : (form : Form) (tags : List Tag) (breaks : Breaks) → AreTags form tags → (last : Stage) × (reads form start (joined (between breaks) (ending breaks) tags) ≡ Some last) × (is_whole last ≡ true) × (tags_of last ≡ tags)
 tags_arrive form [] breaks h = absurd (let wrong : false ≡ true = h.led in cc)
 tags_arrive form (v ∷ more) breaks h = let a = arrives form [] Unknown v more breaks tt h in (a.last, a.run, a.whole, a.tags_are)
 
@@ -49,7 +49,7 @@ tags_arrive form (v ∷ more) breaks h = let a = arrives form [] Unknown v more 
 pub begins-reads : (form : Form) (bytes : List ℕ) → Begins form bytes → (s : Stage) × (reads form start bytes ≡ Some s)
 begins-reads form bytes b =
     let P : Form → Type 0 = λ f. AreTags f b.message.tags in
-    let a = tags_arrive form b.message.tags b.message.breaks (subst P b.kind b.sound.tags_sound) in
+    let a = tags_arrive form b.message.tags b.message.breaks (subst P b.form_is b.sound.tags_sound) in
     front-reads form start bytes b.rest a.0 (ap (reads form start) (sym b.goes) ∙ a.1)
 
 pub same_some : {X : Type 0} (x y : X) (o : Option X) → o ≡ Some x → o ≡ Some y → x ≡ y
@@ -67,8 +67,8 @@ stuck_there form bytes k s lt e none j t l run =
     let wrong : None ≡ Some c.0 = sym none ∙ c.1 in
     absurd cc
 
-pub breaks-stops : (form : Form) (bytes : List ℕ) (k : ℕ) → BreaksAt form bytes k → StopsAt form bytes k
-breaks-stops form bytes k b = record {
+pub barred-stops : (form : Form) (bytes : List ℕ) (k : ℕ) → BarredAt form bytes k → StopsAt form bytes k
+barred-stops form bytes k b = record {
   short = b.short;
   begins = reads-begins form (take k bytes) b.stage b.run;
   longest = λ j le t. let r = begins-reads form (take j bytes) t in elim (cases_lt k j) [ inl l ↦ absurd (stuck_there form bytes k b.stage b.short b.run b.none j r.0 l r.1) | inr ge ↦ ge ];
@@ -84,18 +84,18 @@ halts-cut form bytes h = (
 )
 
 pub fails-refuses : (form : Form) (bytes : List ℕ) (e : Refused) → Fails form bytes e → Refuses form bytes e
-fails-refuses form bytes (Byte p) f = breaks-stops form bytes p f
+fails-refuses form bytes (Byte p) f = barred-stops form bytes p f
 fails-refuses form bytes Cut f = halts-cut form bytes f
 fails-refuses form bytes (Missing n) f = absurd f
 fails-refuses form bytes NoMemory f = tt
 
 -- whole tags with their breaks
-pub ends-whole : (form : Form) (bytes : List ℕ) (tags : List Tag) (breaks : Breaks) → Ends form bytes tags breaks → AreTags form tags × (bytes ≡ joined (between breaks) (behind breaks) tags)
+pub ends-whole : (form : Form) (bytes : List ℕ) (tags : List Tag) (breaks : Breaks) → Ends form bytes tags breaks → AreTags form tags × (bytes ≡ joined (between breaks) (ending breaks) tags)
 ends-whole form bytes tags breaks h =
     let g = reads-good form start bytes h.stage (start_at form) h.run in
     let w = whole-here form h.stage g.0 h.whole in
     let P : List Tag → Type 0 = λ ts. AreTags form ts in
-    (subst P h.tags_are w.sound, sym g.1 ∙ w.bytes ∙ ap (λ (b : Breaks). joined (between b) (behind b) (tags_of h.stage)) h.breaks_are ∙ ap (joined (between breaks) (behind breaks)) h.tags_are)
+    (subst P h.tags_are w.sound, sym g.1 ∙ w.bytes ∙ ap (λ (b : Breaks). joined (between b) (ending b) (tags_of h.stage)) h.breaks_are ∙ ap (joined (between breaks) (ending breaks)) h.tags_are)
 
 -- none is missing
 pub none_missing : (wanted : List ℕ) (there : List ℕ) → find (λ n. not (is_among there n)) wanted ≡ None → list_all (is_among there) wanted ≡ true
@@ -139,7 +139,7 @@ two_tags Ack v e =
     absurd (omega (arith, one_is v.no 1100 p.0, one_is v.no 1110 q.0))
 
 -- a message is read to its end, and there it is told
-message_told : (form : Form) (breaks : Breaks) (tags : List Tag) (bytes : List ℕ) → AreTags form tags → is_complete form tags ≡ true → bytes ≡ joined (between breaks) (behind breaks) tags → (last : Stage) × (reads form start bytes ≡ Some last) × (content_of form last ≡ record { form = form; breaks = breaks; tags = tags })
+message_told : (form : Form) (breaks : Breaks) (tags : List Tag) (bytes : List ℕ) → AreTags form tags → is_complete form tags ≡ true → bytes ≡ joined (between breaks) (ending breaks) tags → (last : Stage) × (reads form start bytes ≡ Some last) × (content_of form last ≡ record { form = form; breaks = breaks; tags = tags })
 message_told form breaks [] bytes h c e = absurd (let wrong : false ≡ true = h.led in cc)
 message_told form breaks (v ∷ []) bytes h c e = absurd (two_tags form v c)
 message_told form breaks (v ∷ w ∷ more) bytes h c e =
@@ -165,7 +165,7 @@ pub begins-some : (form : Form) (bytes : List ℕ) → Begins form bytes → is_
 begins-some form bytes b = ap is_some (begins-reads form bytes b).1
 
 whole_begins : (m : Content) (bytes : List ℕ) → Spells m bytes → Begins m.form bytes
-whole_begins m bytes h = record { message = m; sound = h.sound; kind = refl; rest = []; goes = sym h.spelled ∙ sym (append-nil bytes) }
+whole_begins m bytes h = record { message = m; sound = h.sound; form_is = refl; rest = []; goes = sym h.spelled ∙ sym (append-nil bytes) }
 
 not_complete : (wanted there : List ℕ) (n : ℕ) → find (λ m. not (is_among there m)) wanted ≡ Some n → list_all (is_among there) wanted ≡ true → ⊥
 not_complete [] there n e h = absurd cc

@@ -3,16 +3,17 @@ use Rattle.std.proofs.Common.{◌≡◌, ℕ, ◌+◌, ◌≤◌, Bool, true, fa
 use Rattle.std.specs.List.{list_all, sum, sum_by}
 use Rattle.std.proofs.lemmas.Bool.{and_parts, and_from, or_parts, eqb-true, eqb-false, ne_eqb, not-true, leb-true}
 use Rattle.std.proofs.lemmas.List.Sums.{sum-map, sum_by-cons}
+use Rattle.faim_base.specs.Limits.{longest_message}
 use Rattle.faim_base.specs.Tags.{tag_numbers, is_tag_number}
 use Rattle.faim_base.specs.Text.{is_text_byte}
 use Rattle.faim_tags.specs.Layouts.{row_of, classes, maxima, longest}
-use Rattle.faim_tags.specs.Spelling.{Tag, IsTag, head, spelling, starred, all_fit, fits}
+use Rattle.faim_tags.specs.Spelling.{Tag, IsTag, braced, spelling, starred, all_fit, fits}
 use Rattle.faim_tags.specs.Reading.{is_among}
 use Rattle.faim_tags.proofs.Ends.{fill-run}
 use Rattle.faim_message.specs.declared.form.Form.{Form}
 use Rattle.faim_message.specs.declared.form.Breaks.{Breaks}
 use Rattle.faim_message.specs.declared.form.Breaks.TheVariants.{Joined, Lf, CrLf}
-use Rattle.faim_message.specs.Forms.{without, permitted, between, behind}
+use Rattle.faim_message.specs.Forms.{without, permitted, between, ending}
 use Rattle.faim_message.specs.Spelling.{Content, Spells, EachTag, numbers, distinct, joined}
 use Rattle.faim_message.proofs.Numbers.{all_at, without_among, permitted_listed}
 
@@ -51,9 +52,9 @@ tag_short : (v : Tag) → IsTag v → length (spelling v) ≤ longest (row_of v.
 tag_short v h =
     let fixed : length v.fixed ≡ length (classes v.no) = (fill-run (classes v.no) v.fixed h.filled).1 in
     let stars : length (starred v.stars v.closed) ≤ total (λ m. m + 1) (maxima v.no) = stars_short (maxima v.no) v.stars v.closed h.fitting in
-    omega (arith, length-append (head v.no ++ v.fixed) (starred v.stars v.closed), length-append (head v.no) v.fixed, fixed, stars, sum_total (λ m. m + 1) (maxima v.no))
+    omega (arith, length-append (braced v.no ++ v.fixed) (starred v.stars v.closed), length-append (braced v.no) v.fixed, fixed, stars, sum_total (λ m. m + 1) (maxima v.no))
 
--- a tag with two bytes behind it
+-- a tag with two bytes after it
 abbrev room_of : ℕ → ℕ
 room_of n = longest (row_of n) + 2
 
@@ -103,7 +104,7 @@ among_less f (n ∷ ns) all d e =
         and_from (is_among (without (n ∷ []) all) m) (list_all (is_among (without (n ∷ []) all)) ms)
         (without_among (n ∷ []) all m p.0 (ap (λ (t : Bool). t || false) apart)) (others ms q.1 p.1)
 
-all_short : total room_of tag_numbers ≡ 4_234
+all_short : total room_of tag_numbers ≡ longest_message
 unfolding row_of
 all_short = refl
 
@@ -114,11 +115,11 @@ among_tags form (n ∷ ns) e =
     and_from (is_tag_number n) (list_all is_tag_number ns) (all_at is_tag_number (permitted form) n (permitted_listed form) p.0) (among_tags form ns p.1)
 
 -- no spelling is longer
-pub message_short : (m : Content) (bytes : List ℕ) → Spells m bytes → length bytes ≤ 4_234
+pub message_short : (m : Content) (bytes : List ℕ) → Spells m bytes → length bytes ≤ longest_message
 message_short m bytes h =
     let a = h.sound.tags_sound in
-    let spelled : length bytes ≡ length (joined (between m.breaks) (behind m.breaks) m.tags) = ap length h.spelled in
-    let short = joined_short (between m.breaks) (behind m.breaks) m.tags (between_short m.breaks) (behind_short m.breaks) a.each in
+    let spelled : length bytes ≡ length (joined (between m.breaks) (ending m.breaks) m.tags) = ap length h.spelled in
+    let short = joined_short (between m.breaks) (ending m.breaks) m.tags (between_short m.breaks) (ending_short m.breaks) a.each in
     let less = among_less room_of (numbers m.tags) tag_numbers a.apart (among_tags m.form (numbers m.tags) a.allowed) in
     omega (arith, spelled, short, less, all_short)
   where
@@ -127,9 +128,9 @@ message_short m bytes h =
     between_short (Lf last) = omega arith
     between_short (CrLf last) = omega arith
 
-    behind_short : (breaks : Breaks) → length (behind breaks) ≤ 2
-    behind_short Joined = omega arith
-    behind_short (Lf true) = omega arith
-    behind_short (Lf false) = omega arith
-    behind_short (CrLf true) = omega arith
-    behind_short (CrLf false) = omega arith
+    ending_short : (breaks : Breaks) → length (ending breaks) ≤ 2
+    ending_short Joined = omega arith
+    ending_short (Lf true) = omega arith
+    ending_short (Lf false) = omega arith
+    ending_short (CrLf true) = omega arith
+    ending_short (CrLf false) = omega arith

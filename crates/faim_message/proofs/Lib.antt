@@ -17,6 +17,7 @@ pub mod Finds
 pub mod Numbered
 pub mod ImadText
 pub mod Lengths
+pub mod MarkBytes
 pub mod BodyTexts
 pub mod Left
 pub mod PlainCode

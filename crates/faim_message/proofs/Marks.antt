@@ -7,7 +7,7 @@ use Rattle.faim_message.specs.Plain.{PlainParts, plain_text, plain_parts, are_pl
 use Rattle.faim_message.proofs.Pieces.{drop_past, at_end_of}
 use Rattle.faim_message.proofs.Readings.{Spaced, spaced, from_imad, reads_text, spells_text}
 
--- the text before the mark, and behind it
+-- the text before the mark, and after it
 abbrev front : ℕ → PlainParts → List ℕ
 front env p = codes "{1500}30" ++ (p.correlation ++ (env ∷ []))
 
@@ -24,8 +24,8 @@ front_len env p s = omega (arith, length-append p.correlation (env ∷ []), s.co
 changed_at : (xs ys : List ℕ) (x y n : ℕ) → length xs ≡ n → take n (xs ++ (x ∷ ys)) ++ (y ∷ drop (n + 1) (xs ++ (x ∷ ys))) ≡ xs ++ (y ∷ ys)
 changed_at xs ys x y n len =
     let before : take n (xs ++ (x ∷ ys)) ≡ xs = take_at xs (x ∷ ys) n len in
-    let behind : drop (n + 1) (xs ++ (x ∷ ys)) ≡ ys = drop_past n 1 xs (x ∷ ys) len in
-    rw (before, behind) refl
+    let after : drop (n + 1) (xs ++ (x ∷ ys)) ≡ ys = drop_past n 1 xs (x ∷ ys) len in
+    rw (before, after) refl
 
 -- the parts are as long with another mark
 spaced_with_mark : (k : ℕ) (p : PlainParts) → Spaced p → Spaced (record p { mark = k })

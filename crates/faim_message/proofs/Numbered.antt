@@ -10,35 +10,35 @@ use Rattle.faim_message.specs.declared.form.Form.TheVariants.{Input, Draft}
 use Rattle.faim_message.specs.declared.form.Breaks.{Breaks}
 use Rattle.faim_message.specs.Forms.{mandatory, permitted}
 use Rattle.faim_message.specs.Spelling.{IsMessage, EachTag, numbers, distinct, leads, is_complete}
-use Rattle.faim_message.specs.Numbering.{put_behind}
+use Rattle.faim_message.specs.Numbering.{put_after}
 use Rattle.faim_message.proofs.Numbers.{all_at}
 
 -- a property of the tags with one more, by whether the first has the number
-by_first : (P : List Tag → Type 0) (n : ℕ) (t v : Tag) (tags : List Tag) → P (v ∷ t ∷ tags) → P (v ∷ put_behind n t tags) → P (put_behind n t (v ∷ tags))
-by_first P n t v tags here later = elim (eqb v.no n) as (λ b. P (cond b (v ∷ t ∷ tags) (v ∷ put_behind n t tags))) [ true ↦ here | false ↦ later ]
+by_first : (P : List Tag → Type 0) (n : ℕ) (t v : Tag) (tags : List Tag) → P (v ∷ t ∷ tags) → P (v ∷ put_after n t tags) → P (put_after n t (v ∷ tags))
+by_first P n t v tags here later = elim (eqb v.no n) as (λ b. P (cond b (v ∷ t ∷ tags) (v ∷ put_after n t tags))) [ true ↦ here | false ↦ later ]
 
-each-put : (n : ℕ) (t : Tag) (tags : List Tag) → IsTag t → EachTag tags → EachTag (put_behind n t tags)
+each-put : (n : ℕ) (t : Tag) (tags : List Tag) → IsTag t → EachTag tags → EachTag (put_after n t tags)
 each-put n t [] h e = (h, tt)
 each-put n t (v ∷ tags) h e = by_first EachTag n t v tags (e.0, (h, e.1)) (e.0, each-put n t tags h e.1)
 
-all-put : (p : ℕ → Bool) (n : ℕ) (t : Tag) (tags : List Tag) → p t.no ≡ true → list_all p (numbers tags) ≡ true → list_all p (numbers (put_behind n t tags)) ≡ true
+all-put : (p : ℕ → Bool) (n : ℕ) (t : Tag) (tags : List Tag) → p t.no ≡ true → list_all p (numbers tags) ≡ true → list_all p (numbers (put_after n t tags)) ≡ true
 all-put p n t [] h e = and_from (p t.no) true h refl
 all-put p n t (v ∷ tags) h e =
     let q = and_parts (p v.no) (list_all p (numbers tags)) e in
     by_first (λ ts. list_all p (numbers ts) ≡ true) n t v tags
     (and_from (p v.no) (p t.no && list_all p (numbers tags)) q.0 (and_from (p t.no) (list_all p (numbers tags)) h q.1))
-    (and_from (p v.no) (list_all p (numbers (put_behind n t tags))) q.0 (all-put p n t tags h q.1))
+    (and_from (p v.no) (list_all p (numbers (put_after n t tags))) q.0 (all-put p n t tags h q.1))
 
 -- a number that is another than the new tag's is there no more than before
-absent-put : (n k : ℕ) (t : Tag) (tags : List Tag) → eqb t.no k ≡ false → is_among (numbers tags) k ≡ false → is_among (numbers (put_behind n t tags)) k ≡ false
+absent-put : (n k : ℕ) (t : Tag) (tags : List Tag) → eqb t.no k ≡ false → is_among (numbers tags) k ≡ false → is_among (numbers (put_after n t tags)) k ≡ false
 absent-put n k t [] h e = rw h refl
 absent-put n k t (v ∷ tags) h e =
     let q = or_parts (eqb v.no k) (is_among (numbers tags) k) e in
     by_first (λ ts. is_among (numbers ts) k ≡ false) n t v tags
     (or_from (eqb v.no k) (eqb t.no k || is_among (numbers tags) k) q.0 (or_from (eqb t.no k) (is_among (numbers tags) k) h q.1))
-    (or_from (eqb v.no k) (is_among (numbers (put_behind n t tags)) k) q.0 (absent-put n k t tags h q.1))
+    (or_from (eqb v.no k) (is_among (numbers (put_after n t tags)) k) q.0 (absent-put n k t tags h q.1))
 
-distinct-put : (n : ℕ) (t : Tag) (tags : List Tag) → is_among (numbers tags) t.no ≡ false → distinct (numbers tags) ≡ true → distinct (numbers (put_behind n t tags)) ≡ true
+distinct-put : (n : ℕ) (t : Tag) (tags : List Tag) → is_among (numbers tags) t.no ≡ false → distinct (numbers tags) ≡ true → distinct (numbers (put_after n t tags)) ≡ true
 distinct-put n t [] a d = refl
 distinct-put n t (v ∷ tags) a d =
     let p = and_parts (not (is_among (numbers tags) v.no)) (distinct (numbers tags)) d in
@@ -48,25 +48,25 @@ distinct-put n t (v ∷ tags) a d =
     by_first (λ ts. distinct (numbers ts) ≡ true) n t v tags
     (and_from (not (eqb t.no v.no || is_among (numbers tags) v.no)) (not (is_among (numbers tags) t.no) && distinct (numbers tags)) (not_from_false _ (or_from (eqb t.no v.no) (is_among (numbers tags) v.no) other apart))
     (and_from (not (is_among (numbers tags) t.no)) (distinct (numbers tags)) (not_from_false _ q.1) p.1))
-    (and_from (not (is_among (numbers (put_behind n t tags)) v.no)) (distinct (numbers (put_behind n t tags))) (not_from_false _ (absent-put n v.no t tags other apart)) (distinct-put n t tags q.1 p.1))
+    (and_from (not (is_among (numbers (put_after n t tags)) v.no)) (distinct (numbers (put_after n t tags))) (not_from_false _ (absent-put n v.no t tags other apart)) (distinct-put n t tags q.1 p.1))
 
 -- the new tag is there
-there-put : (n : ℕ) (t : Tag) (tags : List Tag) → is_among (numbers (put_behind n t tags)) t.no ≡ true
+there-put : (n : ℕ) (t : Tag) (tags : List Tag) → is_among (numbers (put_after n t tags)) t.no ≡ true
 there-put n t [] = or_left (eqb t.no t.no) false (eq-eqb t.no t.no refl)
 there-put n t (v ∷ tags) =
     by_first (λ ts. is_among (numbers ts) t.no ≡ true) n t v tags
     (or_right (eqb v.no t.no) (eqb t.no t.no || is_among (numbers tags) t.no) (or_left (eqb t.no t.no) (is_among (numbers tags) t.no) (eq-eqb t.no t.no refl)))
-    (or_right (eqb v.no t.no) (is_among (numbers (put_behind n t tags)) t.no) (there-put n t tags))
+    (or_right (eqb v.no t.no) (is_among (numbers (put_after n t tags)) t.no) (there-put n t tags))
 
 -- and the others are still there
-still-put : (n k : ℕ) (t : Tag) (tags : List Tag) → is_among (numbers tags) k ≡ true → is_among (numbers (put_behind n t tags)) k ≡ true
+still-put : (n k : ℕ) (t : Tag) (tags : List Tag) → is_among (numbers tags) k ≡ true → is_among (numbers (put_after n t tags)) k ≡ true
 still-put n k t [] e = absurd (let wrong : false ≡ true = e in cc)
 still-put n k t (v ∷ tags) e =
     by_first (λ ts. is_among (numbers ts) k ≡ true) n t v tags
     (deeper (eqb v.no k) (eqb t.no k) (is_among (numbers tags) k) e)
     (elim (or_cases (eqb v.no k) (is_among (numbers tags) k) e) [
-      | inl same ↦ or_left (eqb v.no k) (is_among (numbers (put_behind n t tags)) k) same
-      | inr more ↦ or_right (eqb v.no k) (is_among (numbers (put_behind n t tags)) k) (still-put n k t tags more)
+      | inl same ↦ or_left (eqb v.no k) (is_among (numbers (put_after n t tags)) k) same
+      | inr more ↦ or_right (eqb v.no k) (is_among (numbers (put_after n t tags)) k) (still-put n k t tags more)
     ])
   where
     deeper : (x y z : Bool) → x || z ≡ true → x || (y || z) ≡ true
@@ -74,7 +74,7 @@ still-put n k t (v ∷ tags) e =
     deeper false true z e = refl
     deeper false false z e = e
 
-leads-put : (n m : ℕ) (t : Tag) (tags : List Tag) → leads m tags ≡ true → leads m (put_behind n t tags) ≡ true
+leads-put : (n m : ℕ) (t : Tag) (tags : List Tag) → leads m tags ≡ true → leads m (put_after n t tags) ≡ true
 leads-put n m t [] e = absurd (let wrong : false ≡ true = e in cc)
 leads-put n m t (v ∷ tags) e = by_first (λ ts. leads m ts ≡ true) n t v tags e e
 
@@ -104,9 +104,9 @@ unnumbered tags a = absent (is_among (numbers tags) 1520) (λ h. all_at (is_amon
     absent false h = refl
 
 -- the mandatory tags are there with the identifier
-complete-put : (n : ℕ) (t : Tag) (tags : List Tag) → t.no ≡ 1520 → is_complete Draft tags ≡ true → is_complete Input (put_behind n t tags) ≡ true
+complete-put : (n : ℕ) (t : Tag) (tags : List Tag) → t.no ≡ 1520 → is_complete Draft tags ≡ true → is_complete Input (put_after n t tags) ≡ true
 complete-put n t tags is c =
-    let has : ℕ → Bool = is_among (numbers (put_behind n t tags)) in
+    let has : ℕ → Bool = is_among (numbers (put_after n t tags)) in
     let kept : list_all has (mandatory Draft) ≡ true = weaker (is_among (numbers tags)) has (mandatory Draft) (λ k h. still-put n k t tags h) c in
     let P : ℕ → Type 0 = λ k. has k ≡ true in
     let own : has 1520 ≡ true = subst P is (there-put n t tags) in
@@ -116,7 +116,7 @@ complete-put n t tags is c =
     with_own a b c d e f = rw e f
 
 -- a draft's tags with the identifier are a submission's
-pub IsMessage-put : (breaks : Breaks) (n : ℕ) (t : Tag) (tags : List Tag) → t.no ≡ 1520 → IsTag t → IsMessage (record { form = Draft; breaks = breaks; tags = tags }) → IsMessage (record { form = Input; breaks = breaks; tags = put_behind n t tags })
+pub IsMessage-put : (breaks : Breaks) (n : ℕ) (t : Tag) (tags : List Tag) → t.no ≡ 1520 → IsTag t → IsMessage (record { form = Draft; breaks = breaks; tags = tags }) → IsMessage (record { form = Input; breaks = breaks; tags = put_after n t tags })
 IsMessage-put breaks n t tags is h m =
     let a = m.tags_sound in
     let P : ℕ → Type 0 = λ k. is_among (permitted Input) k ≡ true in
@@ -134,31 +134,31 @@ IsMessage-put breaks n t tags is h m =
 abbrev first_at : ℕ → List Tag → ℕ
 first_at n tags = position_or_len (λ v. v.no == n) tags
 
--- where the number is found, the new tag comes right behind it
-pub placed_at : (n : ℕ) (t : Tag) (tags : List Tag) → first_at n tags < length tags → insert tags (first_at n tags + 1) t ≡ put_behind n t tags
+-- where the number is found, the new tag comes right after it
+pub placed_at : (n : ℕ) (t : Tag) (tags : List Tag) → first_at n tags < length tags → insert tags (first_at n tags + 1) t ≡ put_after n t tags
 placed_at n t [] lt = absurd (omega arith)
 placed_at n t (v ∷ tags) lt = by_test (λ h. placed_at n t tags h) (eqb v.no n) lt
   where
-    by_test : (first_at n tags < length tags → insert tags (first_at n tags + 1) t ≡ put_behind n t tags) → (b : Bool) → cond (not b) (1 + first_at n tags) 0 < suc (length tags) → insert (v ∷ tags) (cond (not b) (1 + first_at n tags) 0 + 1) t ≡ cond b (v ∷ t ∷ tags) (v ∷ put_behind n t tags)
+    by_test : (first_at n tags < length tags → insert tags (first_at n tags + 1) t ≡ put_after n t tags) → (b : Bool) → cond (not b) (1 + first_at n tags) 0 < suc (length tags) → insert (v ∷ tags) (cond (not b) (1 + first_at n tags) 0 + 1) t ≡ cond b (v ∷ t ∷ tags) (v ∷ put_after n t tags)
     by_test more true lt = refl
     by_test more false lt =
         let next : 1 + first_at n tags + 1 ≡ suc (first_at n tags + 1) = omega arith in
         ap (λ (k : ℕ). insert (v ∷ tags) k t) next ∙ ap (λ (ts : List Tag). v ∷ ts) (more (omega arith))
 
 -- where it isn't, it comes at the end
-pub placed_last : (n : ℕ) (t : Tag) (tags : List Tag) → length tags ≤ first_at n tags → tags ++ t ∷ [] ≡ put_behind n t tags
+pub placed_last : (n : ℕ) (t : Tag) (tags : List Tag) → length tags ≤ first_at n tags → tags ++ t ∷ [] ≡ put_after n t tags
 placed_last n t [] le = refl
 placed_last n t (v ∷ tags) le = by_test (λ h. placed_last n t tags h) (eqb v.no n) le
   where
-    by_test : (length tags ≤ first_at n tags → tags ++ t ∷ [] ≡ put_behind n t tags) → (b : Bool) → suc (length tags) ≤ cond (not b) (1 + first_at n tags) 0 → v ∷ tags ++ t ∷ [] ≡ cond b (v ∷ t ∷ tags) (v ∷ put_behind n t tags)
+    by_test : (length tags ≤ first_at n tags → tags ++ t ∷ [] ≡ put_after n t tags) → (b : Bool) → suc (length tags) ≤ cond (not b) (1 + first_at n tags) 0 → v ∷ tags ++ t ∷ [] ≡ cond b (v ∷ t ∷ tags) (v ∷ put_after n t tags)
     by_test more true le = absurd (omega arith)
     by_test more false le = ap (λ (ts : List Tag). v ∷ ts) (more (omega arith))
 
 -- what a look-up of the place finds
-pub found_place : (n k : ℕ) (t : Tag) (tags : List Tag) → position (λ v. v.no == n) tags ≡ Some k → insert tags (k + 1) t ≡ put_behind n t tags
+pub found_place : (n k : ℕ) (t : Tag) (tags : List Tag) → position (λ v. v.no == n) tags ≡ Some k → insert tags (k + 1) t ≡ put_after n t tags
 found_place n k t tags e = by_test (cases_lt (first_at n tags) (length tags))
   where
-    by_test : (first_at n tags < length tags) ⊎ (length tags ≤ first_at n tags) → insert tags (k + 1) t ≡ put_behind n t tags
+    by_test : (first_at n tags < length tags) ⊎ (length tags ≤ first_at n tags) → insert tags (k + 1) t ≡ put_after n t tags
     by_test (inl lt) =
         let at : Some (first_at n tags) ≡ Some k = sym (ap (λ (b : Bool). cond b (Some (first_at n tags)) None) (lt-ltb (first_at n tags) (length tags) lt)) ∙ e in
         let is : first_at n tags ≡ k = cc in
@@ -167,10 +167,10 @@ found_place n k t tags e = by_test (cases_lt (first_at n tags) (length tags))
         let none : None ≡ Some k = sym (ap (λ (b : Bool). cond b (Some (first_at n tags)) None) (le-ltb (first_at n tags) (length tags) le)) ∙ e in
         absurd cc
 
-pub no_place : (n : ℕ) (t : Tag) (tags : List Tag) → position (λ v. v.no == n) tags ≡ None → insert tags (length tags) t ≡ put_behind n t tags
+pub no_place : (n : ℕ) (t : Tag) (tags : List Tag) → position (λ v. v.no == n) tags ≡ None → insert tags (length tags) t ≡ put_after n t tags
 no_place n t tags e = by_test (cases_lt (first_at n tags) (length tags))
   where
-    by_test : (first_at n tags < length tags) ⊎ (length tags ≤ first_at n tags) → insert tags (length tags) t ≡ put_behind n t tags
+    by_test : (first_at n tags < length tags) ⊎ (length tags ≤ first_at n tags) → insert tags (length tags) t ≡ put_after n t tags
     by_test (inl lt) =
         let some : Some (first_at n tags) ≡ None = sym (ap (λ (b : Bool). cond b (Some (first_at n tags)) None) (lt-ltb (first_at n tags) (length tags) lt)) ∙ e in
         absurd cc

@@ -11,7 +11,7 @@ use Rattle.faim_base.specs.Text.{is_text_byte}
 pub drop_past : (n m : ℕ) (xs ys : List ℕ) → length xs ≡ n → drop (n + m) (xs ++ ys) ≡ drop m ys
 drop_past n m xs ys len = subst (λ (k : ℕ). drop (k + m) (xs ++ ys) ≡ drop m ys) len (drop-append-add xs ys m)
 
--- what stands right behind a first piece
+-- what stands right after a first piece
 pub at_end_of : (xs ys : List ℕ) (y n : ℕ) → length xs ≡ n → get_or (xs ++ y ∷ ys) n 0 ≡ y
 at_end_of xs ys y n len = get_or_at xs y ys 0 n len
 

@@ -19,22 +19,22 @@ same_front : (front xs ys : List ℕ) → bytes_eq (front ++ xs) (front ++ ys) �
 same_front [] xs ys = refl
 same_front (x ∷ front) xs ys = rw (eq-eqb x x refl) (same_front front xs ys)
 
--- the first of the pieces that are left, and those behind it
+-- the first of the pieces that are left, and those after it
 first_piece : (pieces : List (Bor (List ℕ))) (i : ℕ) (d : Bor (List ℕ)) → i < length pieces
     → joined (drop i pieces) ≡ (get_or pieces i d).now ++ joined (drop (i + 1) pieces)
 first_piece pieces i d within = rw (add-one, drop-cons pieces i d) refl
 
 -- a piece that stands in front goes from both
-pub piece_goes : (pieces : List (Bor (List ℕ))) (i : ℕ) (d : Bor (List ℕ)) (rest : List ℕ) (behind : Bor (List ℕ)) → i < length pieces
+pub piece_goes : (pieces : List (Bor (List ℕ))) (i : ℕ) (d : Bor (List ℕ)) (rest : List ℕ) (after : Bor (List ℕ)) → i < length pieces
     → (bytes_eq (take (length (get_or pieces i d).now) rest) (get_or pieces i d).now ≡ true)
-    × (behind.now ≡ drop (length (get_or pieces i d).now) rest)
-    × (length behind.now + length (get_or pieces i d).now ≡ length rest)
-    → bytes_eq (joined (drop (i + 1) pieces)) behind.now ≡ bytes_eq (joined (drop i pieces)) rest
-piece_goes pieces i d rest behind within stripped =
+    × (after.now ≡ drop (length (get_or pieces i d).now) rest)
+    × (length after.now + length (get_or pieces i d).now ≡ length rest)
+    → bytes_eq (joined (drop (i + 1) pieces)) after.now ≡ bytes_eq (joined (drop i pieces)) rest
+piece_goes pieces i d rest after within stripped =
     let piece : List ℕ = (get_or pieces i d).now in
     let left : List ℕ = joined (drop (i + 1) pieces) in
-    let in_front : rest ≡ piece ++ behind.now = strip_prefix_is Decides-eqb rest piece (Some behind) stripped in
-    sym (ap (λ (l : List ℕ). bytes_eq l rest) (first_piece pieces i d within) ∙ ap (bytes_eq (piece ++ left)) in_front ∙ same_front piece left behind.now)
+    let in_front : rest ≡ piece ++ after.now = strip_prefix_is Decides-eqb rest piece (Some after) stripped in
+    sym (ap (λ (l : List ℕ). bytes_eq l rest) (first_piece pieces i d within) ∙ ap (bytes_eq (piece ++ left)) in_front ∙ same_front piece left after.now)
 
 -- where it doesn't stand in front, the pieces aren't the bytes
 pub piece_lacks : (pieces : List (Bor (List ℕ))) (i : ℕ) (d : Bor (List ℕ)) (rest : List ℕ) → i < length pieces
@@ -71,7 +71,7 @@ none_unless : (env : ℕ) (bytes : List ℕ) (found : Option PlainParts) → pla
 none_unless env bytes None reads lacks = reads
 none_unless env bytes (Some p) reads lacks = absurd (lacks p reads)
 
--- what is too short, as a whole or behind the sender's name, is no plain message
+-- what is too short, as a whole or after the sender's name, is no plain message
 pub too_short : (bytes : List ℕ) → length bytes < 115 → (env : ℕ) → plain_parts env bytes ≡ None
 too_short bytes short env =
     none_unless env bytes (plain_parts env bytes) refl (λ p reads. let len = plain_len env bytes p reads in omega (arith, len))

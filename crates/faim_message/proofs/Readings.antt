@@ -20,7 +20,7 @@ pub record Spaced (p : PlainParts) : Type 0 where
   pub sender_names : list_all is_text_byte p.sender_name ≡ true
   pub receiver_names : list_all is_text_byte p.receiver_name ≡ true
 
--- the parts of a plain message are so; each name below stands for the test of that part and those behind it
+-- the parts of a plain message are so; each name below stands for the test of that part and those after it
 pub spaced : (p : PlainParts) → are_plain p ≡ true → Spaced p
 spaced p plain =
     let correlation = and_parts _ _ plain in
@@ -94,7 +94,7 @@ stands_in env p s =
           ∙ drop_past 9 0 p.sender (p.sender_name ++ (codes "*{3400}" ++ from_receiver p)) s.sender_is;
     }
 
--- what stands from the receiver's tag on, behind the sender's name
+-- what stands from the receiver's tag on, after the sender's name
 receiver_tag : (p : PlainParts) (text name : List ℕ) → drop 89 text ≡ p.sender_name ++ (codes "*{3400}" ++ from_receiver p)
     → name ≡ p.sender_name → drop (89 + length name) text ≡ codes "*{3400}" ++ from_receiver p
 receiver_tag p text name name_at same =

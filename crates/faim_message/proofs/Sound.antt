@@ -6,7 +6,7 @@ use Rattle.std.proofs.lemmas.Bool.{or_cases, eqb-true, eq-eqb, and_from, and_par
 use Rattle.faim_tags.specs.Spelling.{Tag, IsTag}
 use Rattle.faim_tags.specs.Reading.{is_among, BeginsTag}
 use Rattle.faim_base.specs.Tags.{is_tag_number}
-use Rattle.faim_tags.specs.Steps.{Head}
+use Rattle.faim_tags.specs.Steps.{InNumber}
 use Rattle.faim_tags.proofs.Meaning.{read-begins}
 use Rattle.faim_message.specs.declared.form.Form.{Form}
 use Rattle.faim_message.specs.Forms.{first_of, permitted}
@@ -86,7 +86,7 @@ grow form tags (n ∷ wanted) a e =
           let g = grow form tags wanted a p.1 in
           record { more = g.more; sound = g.sound; there = and_from (is_among (numbers (tags ++ g.more)) n) (list_all (is_among (numbers (tags ++ g.more))) wanted) (still_there tags g.more n there) g.there }
       | inr absent ↦
-          let b = read-begins (n ∷ []) [] (Head []) (record { some = omega arith; listed = and_from (is_tag_number n) true (all_at is_tag_number (permitted form) n (permitted_listed form) p.0) refl }) refl in
+          let b = read-begins (n ∷ []) [] (InNumber []) (record { some = omega arith; listed = and_from (is_tag_number n) true (all_at is_tag_number (permitted form) n (permitted_listed form) p.0) refl }) refl in
           let s = some_tag n b in
           let v = s.0 in
           let P : ℕ → Type 0 = λ m. is_among (open_numbers form tags) m ≡ true in

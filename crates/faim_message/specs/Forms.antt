@@ -38,9 +38,9 @@ between Joined = []
 between (Lf last) = 10 ∷ []
 between (CrLf last) = 13 ∷ 10 ∷ []
 
--- the bytes behind the last tag
-abbrev pub behind : Breaks → List ℕ
-behind Joined = []
-behind (Lf true) = 10 ∷ []
-behind (CrLf true) = 13 ∷ 10 ∷ []
-behind breaks = []
+-- the bytes after the last tag
+abbrev pub ending : Breaks → List ℕ
+ending Joined = []
+ending (Lf true) = 10 ∷ []
+ending (CrLf true) = 13 ∷ 10 ∷ []
+ending breaks = []

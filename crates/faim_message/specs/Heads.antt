@@ -19,17 +19,17 @@ fixed_in tags n = fixed_of (find (λ v. v.no == n) tags)
 
 -- the head that tags give, or the fault of their identifier
 abbrev pub head_in : List Tag → Result Head IdFault
-head_in tags =
-    read_imad (fixed_in tags 1520) >>= λ i.
-    Ok (record {
-      imad = i;
-      sender = fixed_in tags 3100;
-      receiver = fixed_in tags 3400;
-      code = fixed_in tags 3600;
-      kind = number_of (take 2 (fixed_in tags 1510));
-      sub = number_of (drop 2 (fixed_in tags 1510));
-      amount = number_of (fixed_in tags 2000);
-    })
+head_in tags = do
+  imad ← read_imad (fixed_in tags 1520)
+  Ok (record {
+    imad = imad;
+    sender = fixed_in tags 3100;
+    receiver = fixed_in tags 3400;
+    code = fixed_in tags 3600;
+    kind = number_of (take 2 (fixed_in tags 1510));
+    sub = number_of (drop 2 (fixed_in tags 1510));
+    amount = number_of (fixed_in tags 2000);
+  })
 
 -- the head of a submission
 abbrev pub head_of : Content → Result Head IdFault

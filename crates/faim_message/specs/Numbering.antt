@@ -8,11 +8,11 @@ use Rattle.faim_message.specs.Spelling.{Content}
 abbrev pub imad_tag : List ℕ → Tag
 imad_tag text = record { no = 1520; fixed = text; stars = []; closed = false }
 
--- tags with one more right behind the tag with this number, or at the end where there is none
-abbrev pub put_behind : ℕ → Tag → List Tag → List Tag
-put_behind n t [] = t ∷ []
-put_behind n t (v ∷ tags) = if v.no == n then v ∷ t ∷ tags else v ∷ put_behind n t tags
+-- tags with one more right after the tag with this number, or at the end where there is none
+abbrev pub put_after : ℕ → Tag → List Tag → List Tag
+put_after n t [] = t ∷ []
+put_after n t (v ∷ tags) = if v.no == n then v ∷ t ∷ tags else v ∷ put_after n t tags
 
--- the draft as a submission, with the identifier right behind the tag 1510
+-- the draft as a submission, with the identifier right after the tag 1510
 abbrev pub numbered : Content → List ℕ → Content
-numbered m text = record { form = Input; breaks = m.breaks; tags = put_behind 1510 (imad_tag text) m.tags }
+numbered m text = record { form = Input; breaks = m.breaks; tags = put_after 1510 (imad_tag text) m.tags }

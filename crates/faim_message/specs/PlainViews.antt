@@ -1,7 +1,7 @@
--- The parts of a text as a plain message's parts, and pieces one behind the other.
+-- The parts of a text as a plain message's parts, and pieces one after the other.
 use Rattle.std.specs.Prelude.{ℕ, List, [], ◌∷◌, ◌++◌}
 use Rattle.std.specs.Borrow.{Bor}
-use Rattle.faim_message.specs.declared.reading.Parts.{Parts}
+use Rattle.faim_message.specs.declared.plain_messages.Parts.{Parts}
 use Rattle.faim_message.specs.Plain.{PlainParts}
 
 abbrev pub seen : Parts → PlainParts

@@ -7,14 +7,14 @@ use Rattle.faim_tags.specs.Spelling.{Tag}
 use Rattle.faim_tags.specs.Reading.{is_among}
 use Rattle.faim_message.specs.declared.form.Form.{Form}
 use Rattle.faim_message.specs.declared.form.Breaks.{Breaks}
-use Rattle.faim_message.specs.Forms.{mandatory, between, behind}
+use Rattle.faim_message.specs.Forms.{mandatory, between, ending}
 use Rattle.faim_message.specs.Spelling.{Content, IsMessage, AreTags, numbers, joined, message_spelling}
 
 -- some spelling of a message of the form goes on from these bytes
 pub record Begins (form : Form) (bytes : List ℕ) : Type 0 where
   pub message : Content
   pub sound : IsMessage message
-  pub kind : message.form ≡ form
+  pub form_is : message.form ≡ form
   pub rest : List ℕ
   pub goes : message_spelling message ≡ bytes ++ rest
 
@@ -24,12 +24,12 @@ pub record StopsAt (form : Form) (bytes : List ℕ) (p : ℕ) : Type 0 where
   pub begins : Begins form (take p bytes)
   pub longest : (k : ℕ) → k ≤ length bytes → Begins form (take k bytes) → k ≤ p
 
--- the bytes end behind a whole tag, or behind a whole break that follows one
+-- the bytes end after a whole tag, or after a whole break that follows one
 pub record EndsWhole (form : Form) (bytes : List ℕ) : Type 0 where
   pub tags : List Tag
   pub breaks : Breaks
   pub sound : AreTags form tags
-  pub whole : bytes ≡ joined (between breaks) (behind breaks) tags
+  pub whole : bytes ≡ joined (between breaks) (ending breaks) tags
 
 -- the least of the mandatory numbers that isn't there
 abbrev pub missing : Form → List Tag → Option ℕ

@@ -8,45 +8,46 @@ ghost use Rattle.faim_message.specs.Refusal.{missing};
 ghost use Rattle.faim_message.specs.Stages.{open_numbers};
 
 use crate::Form;
+use crate::message::tag_with;
 use faim_base::NoMemory;
 use faim_tags::TagValue;
 use std::alloc::Global;
 
-static OF_INPUT: [u16; 30] = [
+static PERMITTED_IN_INPUT: [u16; 30] = [
     1500, 1510, 1520, 2000, 3100, 3320, 3400, 3500, 3600, 4000, 4100, 4200, 4320, 4400, 5000, 5100,
     5200, 5400, 6000, 6100, 6110, 6200, 6210, 6300, 6310, 6400, 6410, 6420, 6500, 9000,
 ];
 
-static OF_DRAFT: [u16; 29] = [
+static PERMITTED_IN_DRAFT: [u16; 29] = [
     1500, 1510, 2000, 3100, 3320, 3400, 3500, 3600, 4000, 4100, 4200, 4320, 4400, 5000, 5100, 5200,
     5400, 6000, 6100, 6110, 6200, 6210, 6300, 6310, 6400, 6410, 6420, 6500, 9000,
 ];
 
-static OF_OUTPUT: [u16; 33] = [
+static PERMITTED_IN_OUTPUT: [u16; 33] = [
     1100, 1110, 1120, 1500, 1510, 1520, 2000, 3100, 3320, 3400, 3500, 3600, 4000, 4100, 4200, 4320,
     4400, 5000, 5100, 5200, 5400, 6000, 6100, 6110, 6200, 6210, 6300, 6310, 6400, 6410, 6420, 6500,
     9000,
 ];
 
-static OF_ACK: [u16; 5] = [1100, 1110, 1120, 1130, 1520];
+static PERMITTED_IN_ACK: [u16; 5] = [1100, 1110, 1120, 1130, 1520];
 
-static WANTED_IN_INPUT: [u16; 7] = [1500, 1510, 1520, 2000, 3100, 3400, 3600];
+static MANDATORY_IN_INPUT: [u16; 7] = [1500, 1510, 1520, 2000, 3100, 3400, 3600];
 
-static WANTED_IN_DRAFT: [u16; 6] = [1500, 1510, 2000, 3100, 3400, 3600];
+static MANDATORY_IN_DRAFT: [u16; 6] = [1500, 1510, 2000, 3100, 3400, 3600];
 
-static WANTED_IN_OUTPUT: [u16; 3] = [1100, 1110, 1120];
+static MANDATORY_IN_OUTPUT: [u16; 3] = [1100, 1110, 1120];
 
-static WANTED_IN_ACK: [u16; 2] = [1100, 1110];
+static MANDATORY_IN_ACK: [u16; 2] = [1100, 1110];
 
 #[tactic(auto, unfolding(crate::specs::Forms::permitted))]
 fn permitted(form: Form) -> &'static [u16]
     ensures { result.now ≡ permitted form }
 {
     match form {
-        Form::Input => &OF_INPUT,
-        Form::Draft => &OF_DRAFT,
-        Form::Output => &OF_OUTPUT,
-        Form::Ack => &OF_ACK,
+        Form::Input => &PERMITTED_IN_INPUT,
+        Form::Draft => &PERMITTED_IN_DRAFT,
+        Form::Output => &PERMITTED_IN_OUTPUT,
+        Form::Ack => &PERMITTED_IN_ACK,
     }
 }
 
@@ -54,23 +55,18 @@ fn mandatory(form: Form) -> &'static [u16]
     ensures { result.now ≡ mandatory form }
 {
     match form {
-        Form::Input => &WANTED_IN_INPUT,
-        Form::Draft => &WANTED_IN_DRAFT,
-        Form::Output => &WANTED_IN_OUTPUT,
-        Form::Ack => &WANTED_IN_ACK,
+        Form::Input => &MANDATORY_IN_INPUT,
+        Form::Draft => &MANDATORY_IN_DRAFT,
+        Form::Output => &MANDATORY_IN_OUTPUT,
+        Form::Ack => &MANDATORY_IN_ACK,
     }
 }
 
 // A tag with the number is there.
-pub(crate) fn has(tags: &[TagValue], number: u16) -> bool
+fn has(tags: &[TagValue], number: u16) -> bool
     ensures { result ≡ is_among (numbers tags.now) number }
 {
-    for tag in tags {
-        if tag.no.get() == number {
-            return true;
-        }
-    }
-    false
+    tag_with(tags, number).is_some()
 }
 
 // The numbers that the form permits.
@@ -82,7 +78,7 @@ pub(crate) fn permitted_numbers(alloc: Global, form: Form) -> Result<Vec<u16>, N
     Ok(left)
 }
 
-// The numbers that the next tag may have: the form's first, and behind it those that are left.
+// The numbers that the next tag may have: the form's first, and after it those that are left.
 pub(crate) fn open_numbers<'a>(form: Form, tags: &[TagValue], left: &'a [u16]) -> &'a [u16]
     requires { left.now ≡ without (numbers tags.now) (permitted form) }
     ensures { result.now ≡ open_numbers form tags.now }
@@ -115,11 +111,8 @@ pub(crate) fn take_away(left: &mut Vec<u16>, number: u16)
 pub(crate) fn missing_number(form: Form, tags: &[TagValue]) -> Option<u16>
     ensures { result ≡ missing form tags.now }
 {
-    let wanted = mandatory(form);
-    for number in wanted {
-        if !has(tags, *number) {
-            return Some(*number);
-        }
-    }
-    None
+    mandatory(form)
+        .iter()
+        .copied()
+        .find(|number| !has(tags, *number))
 }

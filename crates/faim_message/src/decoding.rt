@@ -1,23 +1,22 @@
 // Reading a message.
 ghost use Rattle.std.specs.Prelude.{◌≡◌, ◌+◌, ◌^◌, ◌<◌, ◌≤◌, ◌++◌, ◌∷◌, [], ◌⊎◌, ℕ, drop, length, true, None, IfOk, IfErr, MatchResult};
-ghost use Rattle.faim_tags.specs.Steps.{moved};
 ghost use Rattle.faim_message.specs.Forms.{permitted, without};
 ghost use Rattle.faim_message.specs.Spelling.{Spells, numbers};
 ghost use Rattle.faim_message.specs.Refusal.{Refuses};
-ghost use Rattle.faim_message.specs.Stages.{Behind, Starts, Ends, Fails, breaks_with, break_from, feed_from, takes_brace, takes_line, takes_return};
-ghost use Rattle.faim_message.specs.declared.kind.Kind.{Kind};
+ghost use Rattle.faim_message.specs.Stages.{OverAt, Starts, Ends, Fails, breaks_with, break_from, feed_from, takes_brace, takes_feed, takes_return};
+ghost use Rattle.faim_message.specs.declared.so_far.BreakSoFar.{BreakSoFar};
 ghost use Rattle.faim_base.specs.Tags.{is_tag_number};
 
 use crate::allowed::{missing_number, open_numbers, permitted_numbers, take_away};
-use crate::kind::Kind;
 use crate::message::message_of;
+use crate::so_far::BreakSoFar;
 use crate::{Breaks, Form, Message, Tags};
-use faim_base::{NoMemory, Refused, TagNo};
-use faim_tags::{TagValue, read_tag_among};
+use faim_base::{NoMemory, Refused, TagNo, after};
+use faim_tags::{TagValue, moved, read_tag_among};
 use std::alloc::Global;
 
 /// The message of the form that the bytes spell. `Byte` names the first byte with which no message of the form goes on,
-/// `Missing` the least mandatory tag that isn't there behind a whole tag or a whole break, and `Cut` tells of an end
+/// `Missing` the least mandatory tag that isn't there after a whole tag or a whole break, and `Cut` tells of an end
 /// anywhere else (docs/FORMATS.md, "Messages").
 pub fn decode(alloc: Global, bytes: &[u8], form: Form) -> Result<Message, Refused>
     ensures found { IfOk result (λ m. Spells m bytes.now × (m.form ≡ form)) }
@@ -62,26 +61,26 @@ fn read_all(
     ensures { MatchResult result (λ r. Ends form bytes.now r.0 r.1) (λ e. Fails form bytes.now e) }
 {
     let mut tags = Tags::new(alloc);
-    let mut kind = Kind::Unknown;
+    let mut so_far = BreakSoFar::Unknown;
     let mut place = match read_next(alloc, bytes, 0, form, &mut tags, left) {
         Ok(end) => end,
         Err(refused) => return Err(refused),
     };
     while place < bytes.len() {
-        let (next_kind, start) = match read_break(bytes, place, kind) {
+        let (next, start) = match read_break(bytes, place, so_far) {
             Ok(found) => found,
             Err(refused) => return Err(refused),
         };
-        kind = next_kind;
+        so_far = next;
         if start == bytes.len() {
-            return Ok((tags, breaks_with(kind, true)));
+            return Ok((tags, breaks_with(so_far, true)));
         }
         place = match read_next(alloc, bytes, start, form, &mut tags, left) {
             Ok(end) => end,
             Err(refused) => return Err(refused),
         };
     }
-    Ok((tags, breaks_with(kind, false)))
+    Ok((tags, breaks_with(so_far, false)))
 }
 
 // Reads the next tag, appends it, takes its number from those that are left, and answers where it ends.
@@ -95,23 +94,23 @@ fn read_next(
 ) -> Result<usize, Refused>
     requires within { place ≤ length bytes.now }
     requires left { left.old.items ≡ without (numbers tags.old) (permitted form) }
-    ensures found { IfOk result (λ end. (kind : Kind)
-        → Starts form bytes.now place kind tags.old → Behind form bytes.now end kind tags.new) }
+    ensures found { IfOk result (λ end. (so_far : BreakSoFar)
+        → Starts form bytes.now place so_far tags.old → OverAt form bytes.now end so_far tags.new) }
     ensures left { IfOk result (λ _. left.new.items ≡ without (numbers tags.new) (permitted form)) }
     ensures forward { IfOk result (λ end. place < end) }
-    ensures refused { IfErr result (λ e. (kind : Kind)
-        → Starts form bytes.now place kind tags.old → (place < length bytes.now) ⊎ (tags.old ≡ []) → Fails form bytes.now e) }
+    ensures refused { IfErr result (λ e. (so_far : BreakSoFar)
+        → Starts form bytes.now place so_far tags.old → (place < length bytes.now) ⊎ (tags.old ≡ []) → Fails form bytes.now e) }
 {
-    let wanted = open_numbers(form, tags.as_slice(), left.as_slice());
-    if wanted.is_empty() {
+    let open = open_numbers(form, tags.as_slice(), left.as_slice());
+    if open.is_empty() {
         return Err(Refused::Byte(place));
     }
-    match read_tag_among(alloc, after(bytes, place), wanted) {
+    match read_tag_among(alloc, after(bytes, place), open) {
         Ok((tag, length)) => {
             take_away(left, tag.no.get());
             pushed(tags, tag, place + length)
         }
-        Err(refused) => Err(behind(refused, place)),
+        Err(refused) => Err(moved(refused, place)),
     }
 }
 
@@ -126,80 +125,65 @@ fn pushed(tags: &mut Tags, tag: TagValue, end: usize) -> Result<usize, Refused>
     }
 }
 
-// What stands behind a place.
-fn after(bytes: &[u8], place: usize) -> &[u8]
-    requires { place ≤ length bytes.now }
-    ensures { result.now ≡ drop place bytes.now }
-{
-    &bytes[place..]
-}
-
-// A refusal of what stands behind a place, told of all bytes.
-fn behind(refused: Refused, place: usize) -> Refused
-    requires { (k : ℕ) → refused ≡ Refused.Byte k → place + k < 2 ^ 64 }
-    ensures { result ≡ moved place refused }
-{
-    match refused {
-        Refused::Byte(k) => Refused::Byte(place + k),
-        other => other,
-    }
-}
-
-// The break at a place behind a tag, and where it ends.
-fn read_break(bytes: &[u8], place: usize, kind: Kind) -> Result<(Kind, usize), Refused>
+// The break at a place, and where it ends.
+fn read_break(
+    bytes: &[u8],
+    place: usize,
+    so_far: BreakSoFar,
+) -> Result<(BreakSoFar, usize), Refused>
     requires { place < length bytes.now }
-    ensures { result ≡ break_from kind (drop place bytes.now) place }
+    ensures { result ≡ break_from so_far (drop place bytes.now) place }
 {
     let b = bytes[place];
-    if b == b'{' && takes_brace(kind) {
-        Ok((Kind::Bare, place))
-    } else if b == b'\n' && takes_line(kind) {
-        Ok((Kind::Line, place + 1))
-    } else if b == b'\r' && takes_return(kind) {
+    if b == b'{' && takes_brace(so_far) {
+        Ok((BreakSoFar::Bare, place))
+    } else if b == b'\n' && takes_feed(so_far) {
+        Ok((BreakSoFar::Feed, place + 1))
+    } else if b == b'\r' && takes_return(so_far) {
         read_feed(bytes, place + 1)
     } else {
         Err(Refused::Byte(place))
     }
 }
 
-// The LF behind a CR.
-fn read_feed(bytes: &[u8], place: usize) -> Result<(Kind, usize), Refused>
+// The LF after a CR.
+fn read_feed(bytes: &[u8], place: usize) -> Result<(BreakSoFar, usize), Refused>
     requires { place ≤ length bytes.now }
     ensures { result ≡ feed_from (drop place bytes.now) place }
 {
     if place == bytes.len() {
         Err(Refused::Cut)
     } else if bytes[place] == b'\n' {
-        Ok((Kind::ReturnLine, place + 1))
+        Ok((BreakSoFar::ReturnFeed, place + 1))
     } else {
         Err(Refused::Byte(place))
     }
 }
 
-fn takes_brace(kind: Kind) -> bool
-    ensures { result ≡ takes_brace kind }
+fn takes_brace(so_far: BreakSoFar) -> bool
+    ensures { result ≡ takes_brace so_far }
 {
-    matches!(kind, Kind::Unknown | Kind::Bare)
+    matches!(so_far, BreakSoFar::Unknown | BreakSoFar::Bare)
 }
 
-fn takes_line(kind: Kind) -> bool
-    ensures { result ≡ takes_line kind }
+fn takes_feed(so_far: BreakSoFar) -> bool
+    ensures { result ≡ takes_feed so_far }
 {
-    matches!(kind, Kind::Unknown | Kind::Line)
+    matches!(so_far, BreakSoFar::Unknown | BreakSoFar::Feed)
 }
 
-fn takes_return(kind: Kind) -> bool
-    ensures { result ≡ takes_return kind }
+fn takes_return(so_far: BreakSoFar) -> bool
+    ensures { result ≡ takes_return so_far }
 {
-    matches!(kind, Kind::Unknown | Kind::ReturnLine)
+    matches!(so_far, BreakSoFar::Unknown | BreakSoFar::ReturnFeed)
 }
 
-fn breaks_with(kind: Kind, last: bool) -> Breaks
-    ensures { result ≡ breaks_with kind last }
+fn breaks_with(so_far: BreakSoFar, last: bool) -> Breaks
+    ensures { result ≡ breaks_with so_far last }
 {
-    match kind {
-        Kind::Unknown | Kind::Bare => Breaks::Joined,
-        Kind::Line => Breaks::Lf { last },
-        Kind::ReturnLine => Breaks::CrLf { last },
+    match so_far {
+        BreakSoFar::Unknown | BreakSoFar::Bare => Breaks::Joined,
+        BreakSoFar::Feed => Breaks::Lf { last },
+        BreakSoFar::ReturnFeed => Breaks::CrLf { last },
     }
 }

@@ -10,7 +10,7 @@ pub enum Form {
     Ack,
 }
 
-/// What stands between the tags of a message: nothing, LF, or CR and LF. `last` tells that it stands behind the last
+/// What stands between the tags of a message: nothing, LF, or CR and LF. `last` tells that it stands after the last
 /// tag too.
 #[derive(Clone, Copy, Debug, PartialEq, Eq)]
 pub enum Breaks {

@@ -11,7 +11,7 @@ ghost use Rattle.faim_message.specs.Heads.{fixed_in, head_in};
 ghost use Rattle.faim_message.specs.declared.form.Form.{Form};
 
 use crate::message::tag_with;
-use faim_base::{Aba, Cents, Head, IdFault, Imad, digits};
+use faim_base::{Aba, Cents, Head, IdFault, Imad, after, array_of, before, digits};
 use faim_tags::TagValue;
 
 // The head that the tags of a submission give.
@@ -22,7 +22,7 @@ pub(crate) fn head_in(tags: &[TagValue]) -> Result<Head, IdFault>
 {
     match imad(fixed_in(tags, 1520)) {
         Ok(imad) => {
-            let (kind, sub) = kinds(fixed_in(tags, 1510));
+            let (kind, sub) = type_and_subtype(fixed_in(tags, 1510));
             Ok(Head {
                 imad,
                 sender: bank(fixed_in(tags, 3100)),
@@ -55,36 +55,30 @@ fn imad(text: &[u8]) -> Result<Imad, IdFault>
     requires { length text.now ≡ 22 }
     ensures { result ≡ read_imad text.now }
 {
-    let mut bytes = [0; 22];
-    bytes.copy_from_slice(text);
-    Imad::read(&bytes)
+    Imad::read(&array_of(text).unwrap())
 }
 
 fn bank(text: &[u8]) -> Aba
     requires { fill (replicate 9 110) text.now ≡ true }
     ensures { result ≡ text.now }
 {
-    let mut bytes = [0; 9];
-    bytes.copy_from_slice(text);
-    Aba::read(&bytes).unwrap()
+    Aba::read(&array_of(text).unwrap()).unwrap()
 }
 
 fn code(text: &[u8]) -> [u8; 3]
     requires { length text.now ≡ 3 }
     ensures { result ≡ text.now }
 {
-    let mut bytes = [0; 3];
-    bytes.copy_from_slice(text);
-    bytes
+    array_of(text).unwrap()
 }
 
 // The type and the subtype.
-fn kinds(text: &[u8]) -> (u8, u8)
+fn type_and_subtype(text: &[u8]) -> (u8, u8)
     requires { fill (replicate 4 110) text.now ≡ true }
     ensures kind { result.0 ≡ number_of (take 2 text.now) }
     ensures sub { result.1 ≡ number_of (drop 2 text.now) }
 {
-    (two_digits(&text[..2]), two_digits(&text[2..]))
+    (two_digits(before(text, 2)), two_digits(after(text, 2)))
 }
 
 fn two_digits(text: &[u8]) -> u8

@@ -1,10 +1,12 @@
 // Laws of the texts of messages. Each call does nothing: its contract is the law.
-ghost use Rattle.std.specs.Prelude.{◌≡◌, ◌≢◌, ◌⊎◌, ◌≤◌, ◌↔◌, ℕ, List, length, true, Some, is_some, slice_index};
+ghost use Rattle.std.specs.Prelude.{◌≡◌, ◌≢◌, ◌⊎◌, ◌<◌, ◌≤◌, ◌↔◌, ℕ, List, length, true, Some, is_some, slice_index, slice_set, IsTrue};
+ghost use Rattle.faim_base.specs.Limits.{longest_message};
+ghost use Rattle.faim_base.specs.Text.{is_text_byte};
 ghost use Rattle.faim_base.specs.declared.judgement.Refused.{Refused};
 ghost use Rattle.faim_message.specs.declared.form.Form.{Form};
 ghost use Rattle.faim_message.specs.declared.judged.Plain.{Plain};
 ghost use Rattle.faim_message.specs.Plain.{PlainParts, plain_text, plain_parts, plain_of, are_plain, body_of, with_mark};
-ghost use Rattle.faim_message.specs.Spelling.{Content, IsMessage, Spells, message_spelling, marked_with, body_text};
+ghost use Rattle.faim_message.specs.Spelling.{Content, IsMessage, Spells, message_spelling, mark_byte, mark_in, marked_with, body_text};
 ghost use Rattle.faim_message.specs.Refusal.{Begins, Refuses};
 ghost use Rattle.faim_message.specs.Stages.{reads, start};
 
@@ -25,13 +27,25 @@ pub fn spelled_is_not_refused()
     ensures { (m : Content) (bytes : List ℕ) (e : Refused) → Spells m bytes → Refuses m.form bytes e → e ≡ Refused.NoMemory }
 {}
 
-/// No spelling of a message has more than 4,234 bytes (docs/FORMATS.md, "Messages").
+/// No spelling of a message has more bytes than `LONGEST_MESSAGE` says (docs/FORMATS.md, "Messages").
 pub fn spellings_are_short()
-    ensures { (m : Content) (bytes : List ℕ) → Spells m bytes → length bytes ≤ 4_234 }
+    ensures { (m : Content) (bytes : List ℕ) → Spells m bytes → length bytes ≤ longest_message }
 {}
 
-/// The body's text of a submission is the spelling of the submission with a blank as its duplication code. Two submissions
-/// have one body exactly where they are equal but for that code (docs/FORMATS.md, "Messages").
+/// The mark of a message, which is its duplication code, is one byte of its text: byte 17, counted from 0, of a submission
+/// and of a draft, and byte 9 of what the service writes. With another mark that byte alone is another, and where the mark
+/// is a text byte, the new text spells the message with that mark (docs/FORMATS.md, "Messages").
+pub fn a_mark_is_one_byte()
+    ensures within { (m : Content) → IsMessage m → mark_byte m.form < length (message_spelling m) }
+    ensures mark { (m : Content) → IsMessage m → slice_index (message_spelling m) (mark_byte m.form) ≡ mark_in m.form m.tags }
+    ensures alone { (m : Content) (mark : ℕ) → IsMessage m
+        → message_spelling (marked_with mark m) ≡ slice_set (message_spelling m) (mark_byte m.form) mark }
+    ensures spells { (m : Content) (text : List ℕ) (mark : ℕ) → Spells m text → IsTrue (is_text_byte mark)
+        → Spells (marked_with mark m) (slice_set text (mark_byte m.form) mark) }
+{}
+
+/// The body's text of a submission is the spelling of the submission with a blank as its mark. Two submissions
+/// have one body exactly where they are equal but for their marks (docs/FORMATS.md, "Messages").
 pub fn bodies_tell_messages_apart()
     ensures spelled { (m : Content) → IsMessage m → m.form ≡ Form.Input → body_text m ≡ message_spelling (marked_with 32 m) }
     ensures apart { (m w : Content) → IsMessage m → IsMessage w → m.form ≡ Form.Input → w.form ≡ Form.Input

@@ -58,14 +58,14 @@ impl Message {
         tag_with(self.tags.as_slice(), no.get())
     }
 
-    /// The duplication code, a byte of the first tag.
+    /// The mark, which is the duplication code of the first tag.
     pub fn mark(&self) -> u8
         ensures { result ≡ mark_in self.now.form self.now.tags }
     {
         byte_of_first(self.tags.as_slice(), mark_place(self.form))
     }
 
-    /// Changes the duplication code, a text byte, and nothing else (docs/FORMATS.md, "Messages").
+    /// Changes the mark to a text byte, and nothing else (docs/FORMATS.md, "Messages").
     pub fn set_mark(&mut self, mark: u8)
         requires { IsTrue (is_text_byte mark) }
         ensures { self.new ≡ marked_with mark self.old }
@@ -107,7 +107,7 @@ pub(crate) fn parts_of(m: Message) -> (Breaks, Tags)
     (breaks, tags)
 }
 
-// Where the duplication code stands in the first tag's fixed elements.
+// Where the mark stands in the first tag's fixed elements.
 fn mark_place(form: Form) -> usize
     ensures { result ≡ mark_place form }
 {
@@ -117,7 +117,7 @@ fn mark_place(form: Form) -> usize
     }
 }
 
-// Changes the duplication code of a form's tags.
+// Changes the mark of a form's tags.
 fn set_mark_in(form: Form, tags: &mut Tags, mark: u8)
     requires text { IsTrue (is_text_byte mark) }
     requires sound { AreTags form tags.old }
@@ -143,12 +143,7 @@ fn set_byte(tag: &mut TagValue, place: usize, byte: u8)
 pub(crate) fn tag_with(tags: &[TagValue], number: u16) -> Option<&TagValue>
     ensures { option_copied result ≡ find (λ v. v.no == number) tags.now }
 {
-    for tag in tags {
-        if tag.no.get() == number {
-            return Some(tag);
-        }
-    }
-    None
+    tags.iter().find(|tag| tag.no.get() == number)
 }
 
 // A byte of the first tag's fixed elements, 0 where there is none.
@@ -165,8 +160,5 @@ fn byte_of_first(tags: &[TagValue], place: usize) -> u8
 fn byte_at(bytes: &[u8], place: usize) -> u8
     ensures { result ≡ slice_index bytes.now place }
 {
-    match bytes.get(place) {
-        Some(b) => *b,
-        None => 0,
-    }
+    *bytes.get(place).unwrap_or(&0)
 }

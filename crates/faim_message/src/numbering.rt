@@ -5,7 +5,7 @@ ghost use Rattle.faim_base.specs.Ids.{imad_text};
 ghost use Rattle.faim_tags.specs.Layouts.{classes};
 ghost use Rattle.faim_tags.specs.Spelling.{Tag, IsTag, fill};
 ghost use Rattle.faim_message.specs.declared.form.Form.{Form};
-ghost use Rattle.faim_message.specs.Numbering.{imad_tag, put_behind, numbered};
+ghost use Rattle.faim_message.specs.Numbering.{imad_tag, put_after, numbered};
 
 use crate::message::{message_of, parts_of};
 use crate::{Form, Message};
@@ -13,7 +13,7 @@ use faim_base::{Bytes, Imad, NoMemory, TagNo};
 use faim_tags::{Stars, TagValue};
 use std::alloc::Global;
 
-/// The submission that the draft is with this identifier: a tag 1520 stands right behind the tag 1510, and all else is
+/// The submission that the draft is with this identifier: a tag 1520 stands right after the tag 1510, and all else is
 /// the draft's. `NoMemory` gives the draft up. The message has the form `Draft` (docs/FORMATS.md, "Messages").
 pub fn with_imad(alloc: Global, m: Message, imad: Imad) -> Result<Message, NoMemory>
     requires { m.form ≡ Form.Draft }
@@ -21,7 +21,7 @@ pub fn with_imad(alloc: Global, m: Message, imad: Imad) -> Result<Message, NoMem
 {
     let tag = imad_tag(alloc, &imad)?;
     let (breaks, mut tags) = parts_of(m);
-    let place = place_behind(tags.as_slice(), 1510);
+    let place = place_after(tags.as_slice(), 1510);
     tags.insert(place, tag)?;
     Ok(message_of(Form::Input, breaks, tags))
 }
@@ -51,10 +51,10 @@ fn imad_text(imad: &Imad) -> [u8; 22]
     text
 }
 
-// The place right behind the first tag with this number, or the end.
-fn place_behind(tags: &[TagValue], number: u16) -> usize
+// The place right after the first tag with this number, or the end.
+fn place_after(tags: &[TagValue], number: u16) -> usize
     ensures within { result ≤ length tags.now }
-    ensures place { (t : Tag) → insert tags.now result t ≡ put_behind number t tags.now }
+    ensures place { (t : Tag) → insert tags.now result t ≡ put_after number t tags.now }
 {
     match position_of(tags, number) {
         Some(place) => place + 1,

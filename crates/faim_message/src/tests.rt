@@ -1,3 +1,4 @@
 // Messages as literal bytes.
+mod form_table;
 mod forms;
 mod plain;

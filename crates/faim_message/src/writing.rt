@@ -1,6 +1,6 @@
 // The bytes of a message.
 ghost use Rattle.std.specs.Prelude.{◌≡◌, ◌++◌, take, length, OnOk, OnErr, IfOk};
-ghost use Rattle.faim_message.specs.Forms.{between, behind};
+ghost use Rattle.faim_message.specs.Forms.{between, ending};
 ghost use Rattle.faim_message.specs.Spelling.{joined, message_spelling, body_text};
 
 use crate::{Breaks, Form, Message};
@@ -23,7 +23,7 @@ pub fn encode(m: &Message, out: &mut Vec<u8>) -> Result<(), NoMemory>
     }
 }
 
-/// The text of a submission with a blank as its duplication code, which is byte 17. Two submissions have the same body
+/// The text of a submission with a blank as its mark, which is byte 17, counted from 0. Two submissions have the same body
 /// exactly where these texts are equal. The message has the form `Input`.
 pub fn body(alloc: Global, m: &Message) -> Result<Bytes, NoMemory>
     requires { m.now.form ≡ Form.Input }
@@ -41,7 +41,7 @@ pub fn body(alloc: Global, m: &Message) -> Result<Bytes, NoMemory>
 
 // Appends the tags with their breaks, or part of them where memory runs out.
 fn append_tags(tags: &[TagValue], breaks: Breaks, out: &mut Vec<u8>) -> Result<(), NoMemory>
-    ensures ok { OnOk result (out.new.items ≡ out.old.items ++ joined (between breaks) (behind breaks) tags.now) }
+    ensures ok { OnOk result (out.new.items ≡ out.old.items ++ joined (between breaks) (ending breaks) tags.now) }
     ensures kept { take (length out.old.items) out.new.items ≡ out.old.items }
 {
     for (k, tag) in tags.iter().enumerate() {
@@ -49,7 +49,7 @@ fn append_tags(tags: &[TagValue], breaks: Breaks, out: &mut Vec<u8>) -> Result<(
         let next = if k + 1 < tags.len() {
             between(breaks)
         } else {
-            behind(breaks)
+            ending(breaks)
         };
         out.extend_from_slice(next)?;
     }
@@ -67,9 +67,9 @@ fn between(breaks: Breaks) -> &'static [u8]
     }
 }
 
-// The bytes behind the last tag.
-fn behind(breaks: Breaks) -> &'static [u8]
-    ensures { result.now ≡ behind breaks }
+// The bytes after the last tag.
+fn ending(breaks: Breaks) -> &'static [u8]
+    ensures { result.now ≡ ending breaks }
 {
     match breaks {
         Breaks::Lf { last: true } => b"\n",

@@ -8,7 +8,7 @@ use Rattle.faim_base.specs.declared.judgement.Verdict.TheVariants.{Taken}
 use Rattle.host_ledger.specs.declared.config.Config.{Config}
 use Rattle.host_ledger.specs.declared.entries.Entry.{Entry}
 use Rattle.host_ledger.specs.declared.entries.Entry.TheVariants.{Posted}
-use Rattle.faim_model.specs.Accounts.{floor_of, opening_of}
+use Rattle.host_ledger.specs.Accounts.{floor_of, opening_of}
 use Rattle.faim_model.specs.Sums.{balance, gives, moves_money, paid, received, takes}
 use Rattle.faim_model.specs.Lawful.{Lawful}
 use Rattle.faim_model.proofs.Judgements.{judged_is_new, new_is_taken, posted_judged}

@@ -1,12 +1,13 @@
 -- What a decision says of the tests that led to it.
 use Rattle.std.proofs.Common.{◌≡◌, refl, ℕ, Bool, true, false, not, List, Option, Some, None, if◌then◌else◌}
+use Rattle.std.specs.Option.{option_map_or}
 use Rattle.faim_base.specs.declared.judgement.Reject.{Reject}
 use Rattle.faim_base.specs.declared.judgement.Verdict.{Verdict}
 use Rattle.faim_base.specs.declared.judgement.Verdict.TheVariants.{Taken}
 use Rattle.faim_base.specs.Refusals.{e161, e162, f401, h101, i501, w301, w302}
 use Rattle.faim_model.specs.declared.decisions.Decision.{Decision}
-use Rattle.faim_model.specs.declared.decisions.Decision.TheVariants.{New, WrongSource}
-use Rattle.faim_model.specs.Verdicts.{differs_or, edit_or, known_or, refused}
+use Rattle.faim_model.specs.declared.decisions.Decision.TheVariants.{New, Known, Differs, WrongSource}
+use Rattle.faim_model.specs.Verdicts.{refused}
 
 -- a new verdict: the line is the source's, and no entry has the identifier
 pub record IsNew (own : Bool) (known differs : Option ℕ) (rest : Decision) (v : Verdict) : Type 0 where
@@ -16,7 +17,7 @@ pub record IsNew (own : Bool) (known differs : Option ℕ) (rest : Decision) (v 
   pub rest_is : rest ≡ New v
 
 pub new_case : (own : Bool) (known differs : Option ℕ) (rest : Decision) (v : Verdict)
-    → (if not own then WrongSource else known_or known (differs_or differs rest)) ≡ New v → IsNew own known differs rest v
+    → (if not own then WrongSource else option_map_or Known known (option_map_or Differs differs rest)) ≡ New v → IsNew own known differs rest v
 new_case false known differs rest v new = absurd cc
 new_case true (Some place) differs rest v new = absurd cc
 new_case true None (Some place) rest v new = absurd cc
@@ -36,7 +37,7 @@ pub record IsTaken (current served stranger customer_late bank_late low full : B
 
 pub taken_case : (current : Bool) (edit : Option Reject) (served stranger customer_late bank_late low full : Bool) (to : List ℕ) (number : ℕ) (dest : List ℕ) (seq : ℕ)
     → (if not current then refused h101
-    else edit_or edit (
+    else option_map_or refused edit (
     if not served then refused e161
     else if stranger then refused e162
     else if customer_late then refused w301

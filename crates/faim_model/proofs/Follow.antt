@@ -27,7 +27,7 @@ marked_again k same = let again : IsMark true 80 = refl in subst (λ (x : ℕ). 
 marked_so : (k : ℕ) → (k ≡ 32) ⊎ (k ≡ 80) → IsMark (k == 80) k
 marked_so k mark = ⊎_elim (λ blank. marked_blank k (sym blank)) (λ again. marked_again k (sym again)) mark
 
--- the verdict on a text by its reading
+-- the verdict on a text by the message that it is
 verdict_by : (c : Config) (es : List Entry) (line : List ℕ) (t : ℕ) (text : List ℕ) (p : Plain) (h : Head)
     → plain_of c.env text ≡ Some p → p.head ≡ Ok h → verdict c es line t text ≡ answer_of (judged c es line t h (body_of text) None)
 verdict_by c es line t text p h reads heads =

@@ -1,5 +1,5 @@
 -- Equal bytes and identifiers, and the entries that have one.
-use Rattle.std.proofs.Common.{◌≡◌, refl, subst, ℕ, ◌==◌, ◌&&◌, Bool, true, false, List, [], ◌∷◌, length, Option, Some, None, if◌then◌else◌}
+use Rattle.std.proofs.Common.{◌≡◌, ◌≢◌, refl, sym, ◌∙◌, subst, ℕ, ◌==◌, ◌&&◌, Bool, true, false, List, [], ◌∷◌, length, Option, Some, None, if◌then◌else◌}
 use Rattle.std.proofs.lemmas.Bool.{and_parts, and_from, eq-eqb, eqb-true}
 use Rattle.std.proofs.lemmas.Slice.Eq.{bytes_eq-Decides}
 use Rattle.std.specs.Str.{bytes_eq}
@@ -14,6 +14,9 @@ bytes_equal a b same = (bytes_eq-Decides a b).0 same
 
 pub bytes_pass : (a b : List ℕ) → a ≡ b → bytes_eq a b ≡ true
 bytes_pass a b equal = (bytes_eq-Decides a b).1 equal
+
+pub bytes_differ : (a b : List ℕ) → bytes_eq a b ≡ false → a ≢ b
+bytes_differ a b apart same = let both : true ≡ false = sym (bytes_pass a b same) ∙ apart in absurd cc
 
 -- so does the test of identifiers
 pub imads_equal : (a b : Imad) → same_imad a b ≡ true → a ≡ b

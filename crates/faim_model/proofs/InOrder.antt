@@ -8,10 +8,10 @@ use Rattle.faim_base.specs.declared.judgement.Verdict.TheVariants.{Taken, Refuse
 use Rattle.host_ledger.specs.declared.config.Config.{Config}
 use Rattle.host_ledger.specs.declared.entries.Entry.{Entry}
 use Rattle.host_ledger.specs.declared.entries.Entry.TheVariants.{Posted, Roll}
-use Rattle.faim_model.specs.Accounts.{has_endpoint}
+use Rattle.host_ledger.specs.Accounts.{has_endpoint}
 use Rattle.faim_model.specs.Sums.{cycle}
 use Rattle.faim_model.specs.Outputs.{Item, count_under, one_if, outputs}
-use Rattle.faim_model.specs.Lawful.{Lawful, numbers_under, up_to}
+use Rattle.faim_model.specs.Lawful.{Lawful, numbers_under, one_to}
 use Rattle.faim_model.proofs.Imads.{bytes_equal}
 use Rattle.faim_model.proofs.Judgements.{judged_is_new, new_is_taken, posted_judged}
 
@@ -28,7 +28,7 @@ count_more date (x ∷ items) i = grind (arith, count_more date items i)
 
 -- the numbers under a date are 1, 2, 3 and so on
 abbrev InOrder : ℕ → List Item → Type 0
-InOrder date items = numbers_under date items ≡ up_to (count_under date items)
+InOrder date items = numbers_under date items ≡ one_to (count_under date items)
 
 -- an item with the next number of its date keeps the order
 next_in_order : (date : ℕ) (items : List Item) (i : Item) (same : Bool) → (i.at.date == date) ≡ same → InOrder date items
@@ -47,7 +47,7 @@ perhaps_next true date items i next order = next_in_order date items i (i.at.dat
 
 -- under each date the numbers of an endpoint are 1, 2, 3 and so on
 pub in_order : (c : Config) (es : List Entry) → Lawful c es → (e : List ℕ) (date : ℕ)
-    → numbers_under date (outputs c es e) ≡ up_to (count_under date (outputs c es e))
+    → numbers_under date (outputs c es e) ≡ one_to (count_under date (outputs c es e))
 in_order c [] lawful e date = refl
 in_order c (Roll moment next ∷ es) lawful e date =
     let end : Item = record {

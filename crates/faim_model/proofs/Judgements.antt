@@ -13,7 +13,7 @@ use Rattle.host_ledger.specs.declared.config.Config.{Config}
 use Rattle.host_ledger.specs.declared.entries.Entry.{Entry}
 use Rattle.faim_model.specs.declared.decisions.Decision.{Decision}
 use Rattle.faim_model.specs.declared.decisions.Decision.TheVariants.{New}
-use Rattle.faim_model.specs.Accounts.{account_of, endpoint_of, is_served_at}
+use Rattle.host_ledger.specs.Accounts.{account_of, endpoint_of, is_served_at}
 use Rattle.faim_model.specs.Sums.{cycle}
 use Rattle.faim_model.specs.Outputs.{sent_in_cycle}
 use Rattle.faim_model.specs.Verdicts.{Now, answer_of, has_body, has_imad, is_below_floor, is_customer, is_past, judged, judged_new, place_of, verdict, verdict_of_head, verdict_of_plain}
@@ -56,7 +56,7 @@ judged_from c es line t text v now = plain_case c es line t text v (plain_of c.e
 own_body : (env : ℕ) (body : List ℕ) (h : Head) → plain_of env body ≡ Some (record { head = Ok h; mark = 32 }) → body_of body ≡ body
 own_body env body h spelled = sym (one_body env body _ 32 spelled) ∙ body_gives_text env body _ spelled
 
--- the head of a reading
+-- the head of a message, if the text is one
 abbrev head_or : Result Head IdFault → Option Plain → Result Head IdFault
 head_or other None = other
 head_or other (Some p) = p.head

@@ -4,8 +4,15 @@ pub mod Judgements
 pub mod Once
 pub mod InOrder
 pub mod Balances
+pub mod Accepted
+pub mod OwnAccounts
+pub mod Conserved
+pub mod Floors
 pub mod Follow
+pub mod Members
 pub mod Places
+pub mod Standing
+pub mod Allowed
 pub mod Again
 pub mod Turned
 pub mod Examples

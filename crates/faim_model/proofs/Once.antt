@@ -10,7 +10,7 @@ use Rattle.faim_model.proofs.Imads.{imads_equal, never_posted}
 use Rattle.faim_model.proofs.Judgements.{judged_is_new, posted_judged}
 
 once_more : (own imad : Imad) (es : List Entry) (same : Bool) → same_imad own imad ≡ same → place_of (has_imad own) es ≡ None
-    → times_posted imad es ≤ 1 → (if same then 1 else 0) + times_posted imad es ≤ 1
+    → times_posted imad es ≤ 1 → times_posted imad es + (if same then 1 else 0) ≤ 1
 once_more own imad es false test fresh once = omega arith
 once_more own imad es true test fresh once =
     let other : place_of (has_imad imad) es ≡ None = subst (λ (i : Imad). place_of (has_imad i) es ≡ None) (imads_equal own imad test) fresh in

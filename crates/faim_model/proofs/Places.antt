@@ -1,6 +1,7 @@
 -- Where the entries of a lawful list stand.
 use Rattle.std.proofs.Common.{◌≡◌, refl, sym, ◌∙◌, ap, subst, ℕ, ◌+◌, ◌<◌, Bool, true, false, List, [], ◌∷◌, length, Option, Some, None, if◌then◌else◌, ⊎_elim, arith}
 use Rattle.std.proofs.lemmas.Bool.{and_left, and_right, and_from, eq-eqb, false_from_ne_true, ne_eqb}
+use Rattle.std.specs.List.{Contains}
 use Rattle.std.specs.Str.{bytes_eq}
 use Rattle.faim_base.specs.declared.ids.Imad.{Imad}
 use Rattle.faim_base.specs.declared.judgement.Head.{Head}
@@ -8,11 +9,11 @@ use Rattle.faim_base.specs.declared.judgement.Verdict.{Verdict}
 use Rattle.host_ledger.specs.declared.config.Config.{Config}
 use Rattle.host_ledger.specs.declared.entries.Entry.{Entry}
 use Rattle.host_ledger.specs.declared.entries.Entry.TheVariants.{Posted, Roll}
-use Rattle.faim_model.specs.Lists.{In}
 use Rattle.faim_model.specs.Verdicts.{has_body, has_imad, place_of, same_imad}
 use Rattle.faim_model.specs.Lawful.{Follows, Lawful}
 use Rattle.faim_model.specs.Turns.{entry_at}
 use Rattle.faim_model.proofs.Imads.{bytes_equal, bytes_pass, imads_equal, imads_pass, none_there}
+use Rattle.faim_model.proofs.Members.{first_or_later, none_in}
 use Rattle.faim_model.proofs.Judgements.{judged_is_new, posted_judged}
 
 -- an entry that passes is found, and one that doesn't is passed over
@@ -52,7 +53,7 @@ no_imad_no_body : (imad : Imad) (body : List ℕ) (x : Entry) → has_imad imad 
 no_imad_no_body imad body (Roll moment date) other = refl
 no_imad_no_body imad body (Posted h b resent moment v) other = and_left (same_imad h.imad imad) (bytes_eq b body) other
 
-none_with_body : (imad : Imad) (body : List ℕ) (es : List Entry) → place_of (has_imad imad) es ≡ None → place_of (has_body imad body) es ≡ None
+pub none_with_body : (imad : Imad) (body : List ℕ) (es : List Entry) → place_of (has_imad imad) es ≡ None → place_of (has_body imad body) es ≡ None
 none_with_body imad body [] none = refl
 none_with_body imad body (x ∷ es) none =
     let apart = none_there (has_imad imad) x es none in
@@ -77,14 +78,14 @@ module _ (c : Config) (h : Head) (body : List ℕ) (resent : Bool) (moment : ℕ
   post = Posted h body resent moment v
 
   -- it is found by its identifier
-  pub imad_found : (imad : Imad) (es : List Entry) → In post es → h.imad ≡ imad → (place : ℕ) × (place_of (has_imad imad) es ≡ Some place)
-  imad_found imad [] there same = absurd there
+  pub imad_found : (imad : Imad) (es : List Entry) → Contains es post → h.imad ≡ imad → (place : ℕ) × (place_of (has_imad imad) es ≡ Some place)
+  imad_found imad [] there same = absurd (none_in post there)
   imad_found imad (x ∷ es) there same =
-      ⊎_elim (λ here. (length es, finds (has_imad imad) x es (subst (λ (y : Entry). has_imad imad y ≡ true) here (imads_pass h.imad imad same))))
-      (λ older. here_or_there (has_imad imad) x es (has_imad imad x) refl (imad_found imad es older same)) there
+      ⊎_elim (λ (here : post ≡ x). (length es, finds (has_imad imad) x es (subst (λ (y : Entry). has_imad imad y ≡ true) here (imads_pass h.imad imad same))))
+      (λ (older : Contains es post). here_or_there (has_imad imad) x es (has_imad imad x) refl (imad_found imad es older same)) (first_or_later x post es there)
 
   -- what follows it has another identifier
-  later_has_other : (x : Entry) (es : List Entry) → Follows c es x → In post es → has_imad h.imad x ≡ false
+  later_has_other : (x : Entry) (es : List Entry) → Follows c es x → Contains es post → has_imad h.imad x ≡ false
   later_has_other (Roll at date) es follows there = refl
   later_has_other (Posted h' body' resent' moment' v') es follows there =
       let new = judged_is_new c es h'.imad.source moment' h' body' None v' (posted_judged c es h' body' resent' moment' v' follows) in
@@ -102,30 +103,30 @@ module _ (c : Config) (h : Head) (body : List ℕ) (resent : Bool) (moment : ℕ
       }
 
   -- it is the entry that is found by its identifier and its body
-  pub post_found : (es : List Entry) → Lawful c es → In post es → IsFound es (has_body h.imad body) post
-  post_found [] lawful there = absurd there
+  pub post_found : (es : List Entry) → Lawful c es → Contains es post → IsFound es (has_body h.imad body) post
+  post_found [] lawful there = absurd (none_in post there)
   post_found (x ∷ es) lawful there =
-      ⊎_elim (λ here. found_newest x es here)
+      ⊎_elim (λ (here : post ≡ x). found_newest x es here)
       (λ older. found_older (has_body h.imad body) x post es (no_imad_no_body h.imad body x (later_has_other x es lawful.0 older)) (post_found es lawful.1 older))
-      there
+      (first_or_later x post es there)
 
   other_body : (other : List ℕ) → (other ≡ body → ⊥) → has_body h.imad other post ≡ false
   other_body other apart =
       and_right (same_imad h.imad h.imad) (bytes_eq body other) (false_from_ne_true (bytes_eq body other) (λ same. apart (sym (bytes_equal body other same))))
 
-  none_behind : (other : List ℕ) (x : Entry) (es : List Entry) → Follows c es x → post ≡ x → place_of (has_body h.imad other) es ≡ None
-  none_behind other x es follows here =
+  none_after : (other : List ℕ) (x : Entry) (es : List Entry) → Follows c es x → post ≡ x → place_of (has_body h.imad other) es ≡ None
+  none_after other x es follows here =
       let own : Follows c es post = subst (λ (y : Entry). Follows c es y) (sym here) follows in
       let new = judged_is_new c es h.imad.source moment h body None v (posted_judged c es h body resent moment v own) in
       none_with_body h.imad other es new.fresh
 
   -- no entry has its identifier and another body
-  pub no_other_body : (other : List ℕ) (es : List Entry) → Lawful c es → In post es → (other ≡ body → ⊥) → place_of (has_body h.imad other) es ≡ None
-  no_other_body other [] lawful there apart = absurd there
+  pub no_other_body : (other : List ℕ) (es : List Entry) → Lawful c es → Contains es post → (other ≡ body → ⊥) → place_of (has_body h.imad other) es ≡ None
+  no_other_body other [] lawful there apart = absurd (none_in post there)
   no_other_body other (x ∷ es) lawful there apart =
       ⊎_elim
       (λ here. passes_over (has_body h.imad other) x es (subst (λ (y : Entry). has_body h.imad other y ≡ false) here (other_body other apart))
-      ∙ none_behind other x es lawful.0 here)
+      ∙ none_after other x es lawful.0 here)
       (λ older. passes_over (has_body h.imad other) x es (no_imad_no_body h.imad other x (later_has_other x es lawful.0 older))
       ∙ no_other_body other es lawful.1 older apart)
-      there
+      (first_or_later x post es there)

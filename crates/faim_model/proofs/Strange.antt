@@ -1,5 +1,6 @@
 -- The refusal of a text that is no message is given for nothing else.
 use Rattle.std.proofs.Common.{◌≡◌, refl, sym, ◌∙◌, ap, ℕ, ◌+◌, Bool, true, false, not, List, [], ◌∷◌, length, Option, Some, None, is_none, ◌==◌, ◌&&◌, nat_le, Result, Ok, Err, if◌then◌else◌, ◌↔◌, arith}
+use Rattle.std.specs.Option.{option_map_or}
 use Rattle.std.specs.Str.{bytes_eq}
 use Rattle.faim_base.specs.declared.ids.IdFault.{IdFault}
 use Rattle.faim_base.specs.declared.judgement.Head.{Head}
@@ -13,13 +14,13 @@ use Rattle.host_ledger.specs.declared.config.Config.{Config}
 use Rattle.host_ledger.specs.declared.entries.Entry.{Entry}
 use Rattle.host_ledger.specs.declared.entries.Entry.TheVariants.{Posted, Roll}
 use Rattle.faim_model.specs.declared.decisions.Decision.{Decision}
-use Rattle.faim_model.specs.declared.decisions.Decision.TheVariants.{New, WrongSource}
+use Rattle.faim_model.specs.declared.decisions.Decision.TheVariants.{New, Known, Differs, WrongSource}
 use Rattle.faim_model.specs.declared.decisions.HostOutcome.{HostOutcome}
 use Rattle.faim_model.specs.declared.decisions.HostOutcome.TheVariants.{TurnedAway}
-use Rattle.faim_model.specs.Accounts.{account_of, endpoint_of, is_served_at}
+use Rattle.host_ledger.specs.Accounts.{account_of, endpoint_of, is_served_at}
 use Rattle.faim_model.specs.Sums.{cycle}
 use Rattle.faim_model.specs.Outputs.{sent_in_cycle}
-use Rattle.faim_model.specs.Verdicts.{answer_of, differs_or, edit_or, has_body, has_imad, is_below_floor, is_customer, is_past, judged_new, known_or, place_of, refused}
+use Rattle.faim_model.specs.Verdicts.{answer_of, has_body, has_imad, is_below_floor, is_customer, is_past, judged_new, place_of, refused}
 use Rattle.faim_model.specs.Turns.{answered, effective, entry_at, submitted, submitted_head, submitted_plain, told_again}
 use Rattle.faim_model.proofs.Places.{at_newest, at_older, found_below}
 
@@ -59,7 +60,7 @@ place_told es h body place found =
 -- a message that is new gets a verdict
 verdict_case : (current : Bool) (edit : Option Reject) (served stranger customer_late bank_late low full : Bool) (taken : Verdict)
     → (v : Verdict) × ((if not current then refused h101
-    else edit_or edit (
+    else option_map_or refused edit (
     if not served then refused e161
     else if stranger then refused e162
     else if customer_late then refused w301
@@ -86,7 +87,7 @@ new_verdict c es line t h edit =
 -- no decision on a message tells that refusal
 decision_told : (es : List Entry) (t : ℕ) (h : Head) (body : List ℕ) (mark : ℕ) (own : Bool) (known differs : Option ℕ) (rest : Decision)
     → place_of (has_body h.imad body) es ≡ known → (v : Verdict) × (rest ≡ New v)
-    → code_told (answered es t h body mark (answer_of (if not own then WrongSource else known_or known (differs_or differs rest)))).outcome ≡ 1 → ⊥
+    → code_told (answered es t h body mark (answer_of (if not own then WrongSource else option_map_or Known known (option_map_or Differs differs rest)))).outcome ≡ 1 → ⊥
 decision_told es t h body mark false known differs rest found new told = absurd (omega arith)
 decision_told es t h body mark true (Some place) differs rest found new told = absurd (omega (arith, place_told es h body place found, told))
 decision_told es t h body mark true None (Some place) rest found new told = absurd (omega arith)

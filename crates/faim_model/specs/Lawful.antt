@@ -1,5 +1,5 @@
 -- Which lists of entries, the newest first, the rules allow.
-use Rattle.std.specs.Prelude.{◌≡◌, ◌⊎◌, ℕ, zero, suc, ◌+◌, ◌≤◌, ◌==◌, Bool, true, false, List, [], ◌∷◌, ◌++◌, if◌then◌else◌, Some, Ok}
+use Rattle.std.specs.Prelude.{◌≡◌, ◌≢◌, ◌⊎◌, ℕ, zero, suc, ◌+◌, ◌*◌, ◌<◌, ◌≤◌, pos, ◌-ℤ◌, ◌≤ℤ◌, Bool, true, false, List, [], ◌∷◌, ◌++◌, map, filter, codes, IsSome, IsTrue, Some, Ok}
 use Rattle.faim_base.specs.declared.ids.Imad.{Imad}
 use Rattle.faim_base.specs.declared.judgement.Head.{Head}
 use Rattle.faim_base.specs.declared.judgement.Verdict.{Verdict}
@@ -7,9 +7,13 @@ use Rattle.faim_message.specs.Plain.{plain_of, with_mark}
 use Rattle.host_ledger.specs.declared.config.Config.{Config}
 use Rattle.host_ledger.specs.declared.entries.Entry.{Entry}
 use Rattle.host_ledger.specs.declared.entries.Entry.TheVariants.{Posted, Roll}
-use Rattle.faim_model.specs.Outputs.{Item}
+use Rattle.host_ledger.specs.Accounts.{account_of, endpoint_of, floor_of, is_served_at}
+use Rattle.faim_model.specs.Lists.{counted}
+use Rattle.faim_model.specs.Sums.{balance, cycle, moves_money}
+use Rattle.faim_model.specs.Outputs.{Item, is_under, sent_in_cycle}
 use Rattle.faim_model.specs.Verdicts.{Now, verdict, has_imad}
 
+-- the effective moment that an entry keeps, in minutes
 abbrev pub moment_of : Entry → ℕ
 moment_of (Posted h body resent moment v) = moment
 moment_of (Roll moment date) = moment
@@ -35,25 +39,43 @@ pub record PostFollows (c : Config) (older : List Entry) (h : Head) (body : List
   pub marked : IsMark resent mark
   pub judged : verdict c older h.imad.source moment (with_mark mark body) ≡ Now v
 
+-- a message may be accepted after these entries at this moment, with this output
+pub record IsAccepted (c : Config) (older : List Entry) (h : Head) (moment : ℕ) (dest : List ℕ) (seq : ℕ) : Type 0 where
+  -- it is of the present cycle date
+  pub current : h.imad.date ≡ cycle c older
+  -- its source serves the sender's account
+  pub sender : IsTrue (is_served_at c h.sender h.imad.source)
+  -- the receiver has an account, and the output goes to its endpoint
+  pub receiver : IsSome (account_of c h.receiver)
+  pub output : dest ≡ endpoint_of c h.receiver
+  -- with the next number of the cycle, of which the last is kept for the end of the cycle
+  pub number : seq ≡ sent_in_cycle c older dest + 1
+  pub kept : seq ≤ 999_998
+  -- it came before the cutoff, which customers' transfers have of their own
+  pub customers : h.code ≡ codes "CTR" → moment < 1440 * cycle c older + c.customer
+  pub banks : h.code ≢ codes "CTR" → moment < 1440 * cycle c older + c.bank
+  -- what it moves leaves the sender's balance no lower than its floor
+  pub floor : moves_money h ≡ true → floor_of c h.sender ≤ℤ (balance c older h.sender -ℤ pos h.amount)
+
+-- an entry may come after these; a Roll may not
 abbrev pub Follows : Config → List Entry → Entry → Type 0
 Follows c older (Posted h body resent moment v) = PostFollows c older h body resent moment v
 Follows c older (Roll moment date) = ⊥
 
+-- each entry may come after those before it
 abbrev pub Lawful : Config → List Entry → Type 0
 Lawful c [] = Unit {0}
 Lawful c (x ∷ older) = Follows c older x × Lawful c older
 
 -- how many entries post a message with this IMAD
 abbrev pub times_posted : Imad → List Entry → ℕ
-times_posted imad [] = 0
-times_posted imad (x ∷ older) = (if has_imad imad x then 1 else 0) + times_posted imad older
+times_posted imad es = counted (has_imad imad) es
 
 -- the output numbers under a date, in order
 abbrev pub numbers_under : ℕ → List Item → List ℕ
-numbers_under date [] = []
-numbers_under date (i ∷ items) = if i.at.date == date then i.at.seq ∷ numbers_under date items else numbers_under date items
+numbers_under date items = map (λ i. i.at.seq) (filter (is_under date) items)
 
 -- 1, 2, 3 and so on to n
-abbrev pub up_to : ℕ → List ℕ
-up_to zero = []
-up_to (suc n) = up_to n ++ suc n ∷ []
+abbrev pub one_to : ℕ → List ℕ
+one_to zero = []
+one_to (suc n) = one_to n ++ suc n ∷ []

@@ -1,5 +1,4 @@
 pub mod Lists
-pub mod Accounts
 pub mod Sums
 pub mod Outputs
 pub mod Verdicts

@@ -1,12 +1,13 @@
 -- What goes to an endpoint, the oldest first.
-use Rattle.std.specs.Prelude.{ℕ, ◌+◌, ◌==◌, nat_le, nat_lt, Bool, ◌&&◌, ◌||◌, List, [], ◌∷◌, ◌++◌, length, take, map, bytes_eq, if◌then◌else◌}
-use Rattle.std.specs.Prelude.{filter}
+use Rattle.std.specs.Prelude.{ℕ, ◌+◌, ◌==◌, Bool, List, [], ◌∷◌, ◌++◌, length, take, map, filter, bytes_eq, if◌then◌else◌}
 use Rattle.faim_base.specs.declared.ids.OutPos.{OutPos}
 use Rattle.faim_base.specs.declared.judgement.Verdict.TheVariants.{Taken, Refused}
+use Rattle.faim_base.specs.Ids.{is_up_to}
 use Rattle.host_ledger.specs.declared.config.Config.{Config}
 use Rattle.host_ledger.specs.declared.entries.Entry.{Entry}
 use Rattle.host_ledger.specs.declared.entries.Entry.TheVariants.{Posted, Roll}
-use Rattle.faim_model.specs.Accounts.{has_endpoint}
+use Rattle.host_ledger.specs.Accounts.{has_endpoint}
+use Rattle.faim_model.specs.Lists.{counted}
 use Rattle.faim_model.specs.Sums.{cycle}
 
 -- an output: its position, and the entry that gives it with its place, the oldest entry being at 0
@@ -15,11 +16,15 @@ pub record Item : Type 0 where
   pub place : ℕ
   pub entry : Entry
 
+-- the item stands under this date
+abbrev pub is_under : ℕ → Item → Bool
+is_under date i = i.at.date == date
+
 -- how many items stand under this date
 abbrev pub count_under : ℕ → List Item → ℕ
-count_under date [] = 0
-count_under date (i ∷ items) = (if i.at.date == date then 1 else 0) + count_under date items
+count_under date items = counted (is_under date) items
 
+-- the item where the test holds, and else none
 abbrev pub one_if : Bool → Item → List Item
 one_if b i = if b then i ∷ [] else []
 
@@ -43,11 +48,11 @@ outputs c (x ∷ older) e = outputs c older e ++ item_of c older (outputs c olde
 abbrev pub sent_in_cycle : Config → List Entry → List ℕ → ℕ
 sent_in_cycle c es e = count_under (cycle c es) (outputs c es e)
 
--- at a position or above it: by date, then number
+-- at a position or after it
 abbrev pub is_from : OutPos → Item → Bool
-is_from p i = nat_lt p.date i.at.date || ((p.date == i.at.date) && nat_le p.seq i.at.seq)
+is_from p i = is_up_to p i.at
 
--- what a retrieval gives: the first 64 items at or above a position
+-- what a retrieval gives: the first 64 items at a position or after it
 abbrev pub retrieved : Config → List Entry → List ℕ → OutPos → List Item
 retrieved c es e p = take 64 (filter (is_from p) (outputs c es e))
 

@@ -1,17 +1,19 @@
 -- The cycle and the balances that a list of entries, the newest first, makes of a configuration.
-use Rattle.std.specs.Prelude.{ℕ, ◌+◌, ◌==◌, Bool, true, false, ◌&&◌, ◌||◌, List, [], ◌∷◌, bytes_eq, if◌then◌else◌, ℤ, pos, ◌+ℤ◌, ◌-ℤ◌}
+use Rattle.std.specs.Prelude.{ℕ, ◌==◌, Bool, true, false, ◌&&◌, ◌||◌, List, [], ◌∷◌, bytes_eq, if◌then◌else◌, ℤ, pos, ◌+ℤ◌, ◌-ℤ◌}
 use Rattle.faim_base.specs.declared.judgement.Head.{Head}
 use Rattle.faim_base.specs.declared.judgement.Verdict.{Verdict}
 use Rattle.faim_base.specs.declared.judgement.Verdict.TheVariants.{Taken, Refused}
 use Rattle.host_ledger.specs.declared.config.Config.{Config}
 use Rattle.host_ledger.specs.declared.entries.Entry.{Entry}
 use Rattle.host_ledger.specs.declared.entries.Entry.TheVariants.{Posted, Roll}
-use Rattle.faim_model.specs.Accounts.{opening_of}
+use Rattle.host_ledger.specs.Accounts.{opening_of}
+use Rattle.faim_model.specs.Lists.{summed}
 
 -- a message of these subtypes moves money from its sender to its receiver
 abbrev pub moves_money : Head → Bool
 moves_money h = (h.sub == 0) || ((h.sub == 2) || ((h.sub == 8) || (h.sub == 32)))
 
+-- the message was accepted
 abbrev pub is_taken : Verdict → Bool
 is_taken (Taken dest seq) = true
 is_taken (Refused why) = false
@@ -27,12 +29,10 @@ takes (Roll moment date) aba = 0
 
 -- all that the entries gave an account, and all that they took from it
 abbrev pub received : List Entry → List ℕ → ℕ
-received [] aba = 0
-received (x ∷ older) aba = received older aba + gives x aba
+received es aba = summed (λ x. gives x aba) es
 
 abbrev pub paid : List Entry → List ℕ → ℕ
-paid [] aba = 0
-paid (x ∷ older) aba = paid older aba + takes x aba
+paid es aba = summed (λ x. takes x aba) es
 
 -- the opening balance, plus what accepted messages moved in, minus what they moved out
 abbrev pub balance : Config → List Entry → List ℕ → ℤ

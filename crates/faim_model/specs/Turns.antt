@@ -22,10 +22,12 @@ pub record HostTurn : Type 0 where
   pub adds : Option Entry
   pub outcome : HostOutcome
 
+-- the entries after a turn
 abbrev pub adds_to : Option Entry → List Entry → List Entry
 adds_to None es = es
 adds_to (Some x) es = x ∷ es
 
+-- the turn adds nothing
 abbrev pub stays : HostOutcome → HostTurn
 stays outcome = record { adds = None; outcome = outcome }
 
@@ -46,15 +48,18 @@ told_again h (Some (Posted old body resent moment v)) = Known old.imad v
 told_again h (Some (Roll moment date)) = TurnedAway e001
 told_again h None = TurnedAway e001
 
+-- a new verdict is recorded with its message, P told; one that stands is told again; any other refusal changes nothing
 abbrev pub answered : List Entry → ℕ → Head → List ℕ → ℕ → Answer → HostTurn
 answered es t h body mark (Now v) = record { adds = Some (Posted h body (mark == 80) t v); outcome = Recorded h.imad v }
 answered es t h body mark (Before place) = stays (told_again h (entry_at es place))
 answered es t h body mark (Turned why) = stays (TurnedAway why)
 
+-- a message whose identifier is none, or whose head is known
 abbrev pub submitted_head : Config → List Entry → List ℕ → ℕ → List ℕ → ℕ → Result Head IdFault → HostTurn
 submitted_head c es line t body mark (Err fault) = stays (TurnedAway e002)
 submitted_head c es line t body mark (Ok h) = answered es t h body mark (answer_of (judged c es line t h body None))
 
+-- a text that is no message, or one that is
 abbrev pub submitted_plain : Config → List Entry → List ℕ → ℕ → List ℕ → Option Plain → HostTurn
 submitted_plain c es line t body None = stays (TurnedAway e001)
 submitted_plain c es line t body (Some p) = submitted_head c es line t body p.mark p.head

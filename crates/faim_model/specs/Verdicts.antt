@@ -1,5 +1,6 @@
 -- The verdict on the text of a message that comes from a line at a moment.
 use Rattle.std.specs.Prelude.{ℕ, ◌+◌, ◌*◌, ◌==◌, nat_le, Bool, false, not, ◌&&◌, List, [], ◌∷◌, length, codes, bytes_eq, if◌then◌else◌, Option, Some, None, is_none, pos, ◌-ℤ◌, int_lt, Result, Ok, Err}
+use Rattle.std.specs.Option.{option_map_or}
 use Rattle.faim_base.specs.declared.ids.Imad.{Imad}
 use Rattle.faim_base.specs.declared.ids.IdFault.{IdFault}
 use Rattle.faim_base.specs.declared.judgement.Head.{Head}
@@ -14,10 +15,11 @@ use Rattle.host_ledger.specs.declared.entries.Entry.{Entry}
 use Rattle.host_ledger.specs.declared.entries.Entry.TheVariants.{Posted, Roll}
 use Rattle.faim_model.specs.declared.decisions.Decision.{Decision}
 use Rattle.faim_model.specs.declared.decisions.Decision.TheVariants.{New, Known, Differs, WrongSource}
-use Rattle.faim_model.specs.Accounts.{account_of, endpoint_of, floor_of, is_served_at}
+use Rattle.host_ledger.specs.Accounts.{account_of, endpoint_of, floor_of, is_served_at}
 use Rattle.faim_model.specs.Sums.{moves_money, balance, cycle}
 use Rattle.faim_model.specs.Outputs.{sent_in_cycle}
 
+-- the same date, source and number
 abbrev pub same_imad : Imad → Imad → Bool
 same_imad a b = (a.date == b.date) && (bytes_eq a.source b.source && (a.seq == b.seq))
 
@@ -39,7 +41,7 @@ place_of p (x ∷ older) = if p x then Some (length older) else place_of p older
 abbrev pub is_customer : Head → Bool
 is_customer h = bytes_eq h.code (codes "CTR")
 
--- at or behind a cutoff of the present cycle date, in minutes of that day
+-- at or after a cutoff of the present cycle date, in minutes of that day
 abbrev pub is_past : Config → List Entry → ℕ → ℕ → Bool
 is_past c es cutoff t = nat_le (1440 * cycle c es + cutoff) t
 
@@ -47,26 +49,15 @@ is_past c es cutoff t = nat_le (1440 * cycle c es + cutoff) t
 abbrev pub is_below_floor : Config → List Entry → Head → Bool
 is_below_floor c es h = moves_money h && int_lt (balance c es h.sender -ℤ pos h.amount) (floor_of c h.sender)
 
+-- a new refusal
 abbrev pub refused : Reject → Decision
 refused why = New (Refused why)
-
-abbrev pub known_or : Option ℕ → Decision → Decision
-known_or None rest = rest
-known_or (Some place) rest = Known place
-
-abbrev pub differs_or : Option ℕ → Decision → Decision
-differs_or None rest = rest
-differs_or (Some place) rest = Differs place
-
-abbrev pub edit_or : Option Reject → Decision → Decision
-edit_or None rest = rest
-edit_or (Some why) rest = refused why
 
 -- a message that is new: the first of these that holds, or it is taken and gets the next number of the receiver's endpoint
 abbrev pub judged_new : Config → List Entry → List ℕ → ℕ → Head → Option Reject → Decision
 judged_new c es line t h edit =
     if not (h.imad.date == cycle c es) then refused h101
-    else edit_or edit (
+    else option_map_or refused edit (
     if not (is_served_at c h.sender line) then refused e161
     else if is_none (account_of c h.receiver) then refused e162
     else if is_customer h && is_past c es c.customer t then refused w301
@@ -79,8 +70,8 @@ judged_new c es line t h edit =
 abbrev pub judged : Config → List Entry → List ℕ → ℕ → Head → List ℕ → Option Reject → Decision
 judged c es line t h body edit =
     if not (bytes_eq h.imad.source line) then WrongSource
-    else known_or (place_of (has_body h.imad body) es)
-    (differs_or (place_of (has_imad h.imad) es) (judged_new c es line t h edit))
+    else option_map_or Known (place_of (has_body h.imad body) es)
+    (option_map_or Differs (place_of (has_imad h.imad) es) (judged_new c es line t h edit))
 
 -- a verdict that is recorded now, one that stands at a place, or a refusal that isn't recorded
 pub data Answer : Type 0 where
@@ -88,16 +79,19 @@ pub data Answer : Type 0 where
   Before : ℕ → Answer
   Turned : Reject → Answer
 
+-- what a decision says of the verdict
 abbrev pub answer_of : Decision → Answer
 answer_of (New v) = Now v
 answer_of (Known place) = Before place
 answer_of (Differs place) = Turned x201
 answer_of WrongSource = Turned h102
 
+-- a message whose identifier is none, or whose head is known
 abbrev pub verdict_of_head : Config → List Entry → List ℕ → ℕ → List ℕ → Result Head IdFault → Answer
 verdict_of_head c es line t body (Err fault) = Turned e002
 verdict_of_head c es line t body (Ok h) = answer_of (judged c es line t h body None)
 
+-- a text that is no message, or one that is
 abbrev pub verdict_of_plain : Config → List Entry → List ℕ → ℕ → List ℕ → Option Plain → Answer
 verdict_of_plain c es line t body None = Turned e001
 verdict_of_plain c es line t body (Some p) = verdict_of_head c es line t body p.head

@@ -1,6 +1,8 @@
-// Laws of lists of entries, the newest first, and of what a host does with a text.
-ghost use Rattle.std.specs.Prelude.{◌≡◌, ◌≢◌, ◌≤◌, ◌≤ℤ◌, ◌+ℤ◌, ◌-ℤ◌, ◌&&◌, bytes_eq, if◌then◌else◌, pos, ℕ, Bool, true, List, ◌∷◌, Some, None, Ok, ◌↔◌};
+// Laws of lists of entries, the newest first, and of what a host does with a text (docs/FORMATS.md, "The order of
+// verdicts").
+ghost use Rattle.std.specs.Prelude.{◌≡◌, ◌≢◌, ◌≤◌, ◌≤ℤ◌, ◌+ℤ◌, ◌-ℤ◌, ◌&&◌, bytes_eq, if◌then◌else◌, pos, min, length, ℕ, Bool, true, List, [], ◌∷◌, Some, None, Ok, ◌↔◌};
 ghost use Rattle.faim_base.specs.declared.ids.Imad.{Imad};
+ghost use Rattle.faim_base.specs.declared.ids.OutPos.{OutPos};
 ghost use Rattle.faim_base.specs.declared.judgement.Head.{Head};
 ghost use Rattle.faim_base.specs.declared.judgement.Reject.{Reject};
 ghost use Rattle.faim_base.specs.declared.judgement.Verdict.{Verdict};
@@ -8,16 +10,22 @@ ghost use Rattle.faim_base.specs.declared.judgement.Verdict.TheVariants.{Refused
 ghost use Rattle.faim_base.specs.Refusals.{e001, x201};
 ghost use Rattle.faim_message.specs.declared.judged.Plain.{Plain};
 ghost use Rattle.faim_message.specs.Plain.{body_of, plain_of};
+ghost use Rattle.host_ledger.specs.declared.config.Account.{Account};
 ghost use Rattle.host_ledger.specs.declared.config.Config.{Config};
 ghost use Rattle.host_ledger.specs.declared.entries.Entry.{Entry};
 ghost use Rattle.host_ledger.specs.declared.entries.Entry.TheVariants.{Posted, Roll};
+ghost use Rattle.faim_model.specs.declared.decisions.Decision.TheVariants.{New};
 ghost use Rattle.faim_model.specs.declared.decisions.HostOutcome.TheVariants.{Known, Recorded, TurnedAway};
-ghost use Rattle.faim_model.specs.Accounts.{floor_of};
-ghost use Rattle.faim_model.specs.Lists.{In};
-ghost use Rattle.faim_model.specs.Sums.{balance, gives, moves_money, takes};
-ghost use Rattle.faim_model.specs.Outputs.{count_under, outputs};
-ghost use Rattle.faim_model.specs.Lawful.{Follows, Lawful, numbers_under, times_posted, up_to};
-ghost use Rattle.faim_model.specs.Turns.{IsPost, adds_to, effective, stays, submitted};
+ghost use Rattle.host_ledger.specs.Accounts.{floor_of};
+ghost use Rattle.host_ledger.specs.Soundness.{IsConfig};
+ghost use Rattle.std.specs.List.{Contains};
+ghost use Rattle.std.specs.Int.{int_min};
+ghost use Rattle.faim_model.specs.Lists.{counted, total};
+ghost use Rattle.faim_model.specs.Sums.{balance, cycle, gives, moves_money, takes};
+ghost use Rattle.faim_model.specs.Outputs.{Item, count_under, is_from, outputs, retrieved};
+ghost use Rattle.faim_model.specs.Verdicts.{judged};
+ghost use Rattle.faim_model.specs.Lawful.{Follows, IsAccepted, Lawful, last_moment, moment_of, numbers_under, one_to, times_posted};
+ghost use Rattle.faim_model.specs.Turns.{IsPost, adds_to, effective, entry_at, stays, submitted};
 
 /// A lawful list posts each identifier at most once.
 pub fn posted_once()
@@ -27,7 +35,13 @@ pub fn posted_once()
 /// Under each date the outputs of each endpoint are numbered 1, 2, 3 and so on, in their order.
 pub fn numbered_in_order()
     ensures { (c : Config) (es : List Entry) → Lawful c es → (e : List ℕ) (date : ℕ)
-        → numbers_under date (outputs c es e) ≡ up_to (count_under date (outputs c es e)) }
+        → numbers_under date (outputs c es e) ≡ one_to (count_under date (outputs c es e)) }
+{}
+
+/// Each output's place is the place of the entry that gives it.
+pub fn outputs_stand_at_their_places()
+    ensures { (c : Config) (es : List Entry) (e : List ℕ) (i : Item)
+        → Contains (outputs c es e) i → entry_at es i.place ≡ Some i.entry }
 {}
 
 /// An entry moves each balance by what it gives the account and what it takes from it, in cents.
@@ -35,6 +49,16 @@ pub fn balance_moves()
     ensures { (c : Config) (x : Entry) (older : List Entry) (aba : List ℕ)
         → balance c (x ∷ older) aba
         ≡ (balance c older aba +ℤ pos (gives x aba)) -ℤ pos (takes x aba) }
+{}
+
+/// The cycle date is the opening date at first, and then that of the last `Roll`; messages leave it.
+pub fn rolls_alone_move_the_cycle()
+    ensures opening { (c : Config) → cycle c [] ≡ c.date }
+    ensures rolled { (c : Config) (older : List Entry) (moment date : ℕ)
+        → cycle c (Roll moment date ∷ older) ≡ date }
+    ensures posted { (c : Config) (older : List Entry) (h : Head) (body : List ℕ) (resent : Bool)
+        (moment : ℕ) (v : Verdict)
+        → cycle c (Posted h body resent moment v ∷ older) ≡ cycle c older }
 {}
 
 /// Accepted messages of the subtypes that move money move it, from the sender to the receiver, and no others do. Amounts
@@ -52,12 +76,54 @@ pub fn accepted_messages_alone_move_money()
         → (gives (Roll moment date) aba ≡ 0) × (takes (Roll moment date) aba ≡ 0) }
 {}
 
+/// The moments of a lawful list never fall.
+pub fn moments_in_order()
+    ensures { (c : Config) (older : List Entry) (x : Entry)
+        → Lawful c (x ∷ older) → last_moment older ≤ moment_of x }
+{}
+
+/// An accepted message is of the present cycle date and came before its cutoff, its source serves the sender's account,
+/// its output goes to the endpoint of the receiver's account with the next number of the cycle, at most 999,998, and what
+/// it moves, in cents, leaves the sender's balance no lower than its floor.
+/// A message with a new identifier, from its source's line, is accepted wherever all this holds.
+pub fn accepted_where_allowed()
+    ensures allowed { (c : Config) (older : List Entry) (h : Head) (body : List ℕ) (resent : Bool)
+        (moment : ℕ) (dest : List ℕ) (seq : ℕ)
+        → Lawful c (Posted h body resent moment (Taken dest seq) ∷ older)
+        → IsAccepted c older h moment dest seq }
+    ensures accepted { (c : Config) (older : List Entry) (h : Head) (body : List ℕ)
+        (moment : ℕ) (dest : List ℕ) (seq : ℕ)
+        → times_posted h.imad older ≡ 0 → IsAccepted c older h moment dest seq
+        → judged c older h.imad.source moment h body None ≡ New (Taken dest seq) }
+{}
+
+/// A retrieval gives each output at its position or after it, but at most 64.
+pub fn retrieved_up_to_sixty_four()
+    ensures { (c : Config) (es : List Entry) (e : List ℕ) (p : OutPos)
+        → length (retrieved c es e p) ≡ min 64 (counted (is_from p) (outputs c es e)) }
+{}
+
 /// An accepted message that moves money leaves its sender's balance no lower than the floor.
 pub fn within_floor()
     ensures { (c : Config) (older : List Entry) (h : Head) (body : List ℕ) (resent : Bool)
         (moment : ℕ) (dest : List ℕ) (seq : ℕ)
         → Lawful c (Posted h body resent moment (Taken dest seq) ∷ older) → moves_money h ≡ true
         → floor_of c h.sender ≤ℤ (balance c older h.sender -ℤ pos h.amount) }
+{}
+
+/// Over all accounts of a sound configuration the balances add up to the openings, in cents, whatever the lawful list.
+pub fn money_is_conserved()
+    ensures { (c : Config) (es : List Entry)
+        → IsConfig c → Lawful c es
+        → total (λ a. balance c es a.aba) c.accounts ≡ total (λ a. a.opening) c.accounts }
+{}
+
+/// In each lawful list of a sound configuration each account's balance is at least its floor or its opening, whichever
+/// is lower, in cents.
+pub fn floors_are_kept()
+    ensures { (c : Config) (es : List Entry) (a : Account)
+        → IsConfig c → Lawful c es → Contains c.accounts a
+        → int_min a.floor a.opening ≤ℤ balance c es a.aba }
 {}
 
 /// What a submitted text adds may follow the entries that are there.
@@ -77,7 +143,7 @@ pub fn turns_stay_lawful()
 pub fn verdict_stands()
     ensures { (c : Config) (es : List Entry) (h : Head) (body : List ℕ) (resent : Bool) (moment : ℕ)
         (v : Verdict) (reading : ℕ) (text : List ℕ) (p : Plain) (h' : Head)
-        → Lawful c es → In (Posted h body resent moment v) es
+        → Lawful c es → Contains es (Posted h body resent moment v)
         → plain_of c.env text ≡ Some p → p.head ≡ Ok h' → h'.imad ≡ h.imad → body_of text ≡ body
         → submitted c es h.imad.source reading text ≡ stays (Known h.imad v) }
 {}
@@ -86,7 +152,7 @@ pub fn verdict_stands()
 pub fn other_text_is_turned()
     ensures { (c : Config) (es : List Entry) (h : Head) (body : List ℕ) (resent : Bool) (moment : ℕ)
         (v : Verdict) (reading : ℕ) (text : List ℕ) (p : Plain) (h' : Head)
-        → Lawful c es → In (Posted h body resent moment v) es
+        → Lawful c es → Contains es (Posted h body resent moment v)
         → plain_of c.env text ≡ Some p → p.head ≡ Ok h' → h'.imad ≡ h.imad → body_of text ≢ body
         → submitted c es h.imad.source reading text ≡ stays (TurnedAway x201) }
 {}

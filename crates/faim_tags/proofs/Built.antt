@@ -10,11 +10,11 @@ use Rattle.faim_tags.specs.Layouts.{row_of, each_class, classes, maxima}
 use Rattle.faim_tags.specs.Parts.{run_length}
 use Rattle.faim_tags.proofs.Greedy.{stuck_fixed}
 use Rattle.faim_tags.specs.Spelling.{Tag, IsTag, is_empty}
-use Rattle.faim_tags.specs.Reading.{is_past, goes_on}
-use Rattle.faim_tags.specs.Steps.{Progress, Inside, steps, may_end, tag_of, Stuck, Completes, Fails, moved}
+use Rattle.faim_tags.specs.Reading.{is_past, goes_on, moved}
+use Rattle.faim_tags.specs.Steps.{Progress, Inside, steps, may_end, tag_of, Stuck, Completes, Fails}
 use Rattle.faim_tags.proofs.Goods.{part-none, steps-good}
 use Rattle.faim_tags.proofs.Ends.{ends}
-use Rattle.faim_tags.proofs.Meaning.{breaks-on, halts-on}
+use Rattle.faim_tags.proofs.Meaning.{barred-on, halts-on}
 
 -- the test of a length
 empty_is : {X : Type 0} (xs : List X) → eqb (length xs) 0 ≡ is_empty xs
@@ -82,9 +82,9 @@ stuck_fails ns p bytes k last e s no_end byte cut =
     at_end true h = h
     at_end false h = refl
 
--- the head and then the elements
+-- the number and then the elements
 pub elements_fail : (ns : List ℕ) (p q : Progress) (bytes : List ℕ) (a : ℕ) (e : Refused) → a ≤ length bytes → steps ns p (take a bytes) ≡ Some q → Fails ns q (drop a bytes) e → Fails ns p bytes (moved a e)
-elements_fail ns p q bytes a (Byte k) le run f = breaks-on ns p q bytes a k le run f
+elements_fail ns p q bytes a (Byte k) le run f = barred-on ns p q bytes a k le run f
 elements_fail ns p q bytes a Cut le run f = halts-on ns p q bytes a run f
 elements_fail ns p q bytes a (Missing n) le run f = f
 elements_fail ns p q bytes a NoMemory le run f = tt

@@ -61,7 +61,7 @@ run_part (suc n) c more (b ∷ bytes) lt =
       | inr e ↦ ap (λ (x : Bool). cond x (suc (run_length (replicate n c ++ more) bytes)) 0) e ∙ sym (run_length-at c n b bytes false e)
     ]
 
--- a run through the first part goes on behind it
+-- a run through the first part goes on after it
 pub run_through : (n c : ℕ) (more bytes : List ℕ) → run_length (replicate n c) bytes ≡ n → run_length (replicate n c ++ more) bytes ≡ n + run_length more (drop n bytes)
 run_through zero c more bytes e = omega arith
 run_through (suc n) c more [] e = absurd (omega arith)

@@ -1,17 +1,17 @@
 -- Where a tag may end it is a tag, from each place in a tag some tag goes on, and each spelling is read to its end.
 use Rattle.std.proofs.Common.{◌≡◌, ℕ, zero, suc, ◌+◌, ◌-◌, ◌/◌, ◌%◌, ◌<◌, ◌≤◌, Bool, true, false, cond, ltb, leb, eqb, not, ◌&&◌, List, [], ◌∷◌, ◌++◌, length, get_or, drop, replicate, Some, None, refl, sym, ap, subst, ◌∙◌, append_assoc, arith, inl, inr}
-use Rattle.std.specs.Prelude.{if◌then◌else◌}
-use Rattle.std.specs.List.{list_all, list_any}
+use Rattle.std.specs.Prelude.{nat_eq, if◌then◌else◌}
+use Rattle.std.specs.List.{list_all, list_any, starts_with}
 use Rattle.std.proofs.lemmas.Bool.{cases_lt, le-ltb, ltb-false, and_parts, and_from, and_right, or_cases, or_left, or_right, not-true, le-leb, eqb-true, eq-eqb}
 use Rattle.std.proofs.lemmas.List.{append-nil, length_push, get_or_past}
 use Rattle.faim_base.specs.Tags.{is_tag_number}
 use Rattle.faim_base.specs.Text.{is_text_byte, is_digit}
 use Rattle.faim_tags.specs.Layouts.{classes, maxima, is_of_class}
-use Rattle.faim_tags.specs.Spelling.{Tag, IsTag, head, spelling, starred, fits, all_fit, fill, is_empty}
+use Rattle.faim_tags.specs.Spelling.{Tag, IsTag, braced, spelling, starred, fits, all_fit, fill, is_empty}
 use Rattle.faim_tags.specs.Reading.{is_among, BeginsTag}
-use Rattle.faim_tags.specs.Steps.{Progress, Head, Inside, steps, may_end, tag_of, read_so_far, with_head, begins_with, number_in}
+use Rattle.faim_tags.specs.Steps.{Progress, InNumber, Inside, steps, may_end, tag_of, read_so_far, with_number, number_in}
 use Rattle.faim_tags.specs.Parts.{run_length}
-use Rattle.faim_tags.proofs.Facts.{room, some_element, begins_with-front, number_back}
+use Rattle.faim_tags.proofs.Facts.{room, some_element, starts_with-front, number_back}
 use Rattle.faim_tags.proofs.Runs.{drop_parts, counted, steps-then, step-one, steps-fixed, steps-text, steps-closed}
 use Rattle.faim_tags.proofs.Goods.{each_fit, all_fit-closed, all_fit-open, each_fit-push, starred-push, starred-open, AllListed, IsPart, IsGood, part-none, no_part}
 
@@ -79,11 +79,11 @@ pub ends : (ns : List ℕ) (n : ℕ) (fixed : List ℕ) (stars : List (List ℕ)
 ends ns n fixed [] [] h e =
     let c = end_cases (ltb (length fixed) (length (classes n))) (not (is_empty (classes n) && true)) e in
     let f = full ns n fixed [] [] h (ltb-false (length fixed) (length (classes n)) c.0) in
-    (record { listed = h.listed; filled = fill-whole (classes n) fixed h.front f; fitting = refl; something = not-true (is_empty (classes n) && true) c.1 }, over (head n) fixed)
+    (record { listed = h.listed; filled = fill-whole (classes n) fixed h.front f; fitting = refl; something = not-true (is_empty (classes n) && true) c.1 }, over (braced n) fixed)
 ends ns n fixed (s ∷ stars) [] h e =
     let c = end_cases (ltb (length fixed) (length (classes n))) (not (is_empty (classes n) && false)) e in
     let f = full ns n fixed (s ∷ stars) [] h (ltb-false (length fixed) (length (classes n)) c.0) in
-    (record { listed = h.listed; filled = fill-whole (classes n) fixed h.front f; fitting = all_fit-closed (maxima n) s stars h.each; something = and_right (is_empty (classes n)) false refl }, over-closed (head n) fixed (starred (s ∷ stars) true))
+    (record { listed = h.listed; filled = fill-whole (classes n) fixed h.front f; fitting = all_fit-closed (maxima n) s stars h.each; something = and_right (is_empty (classes n)) false refl }, over-closed (braced n) fixed (starred (s ∷ stars) true))
 ends ns n fixed stars (x ∷ part) h e =
     let c = end_cases (ltb (length fixed) (length (classes n))) (eqb (length (x ∷ part)) (get_or (maxima n) (length stars) 0)) e in
     let f = full ns n fixed stars (x ∷ part) h (ltb-false (length fixed) (length (classes n)) c.0) in
@@ -95,7 +95,7 @@ ends ns n fixed stars (x ∷ part) h e =
         fitting = all_fit-open (maxima n) stars (x ∷ part) h.each h.texts inside long;
         something = and_right (is_empty (classes n)) (is_empty (stars ++ (x ∷ part) ∷ [])) (not_empty stars (x ∷ part));
       },
-      ap (λ (t : List ℕ). head n ++ fixed ++ t) (starred-open stars (x ∷ part)) ∙ over-open (head n) fixed (starred stars true) (x ∷ part),
+      ap (λ (t : List ℕ). braced n ++ fixed ++ t) (starred-open stars (x ∷ part)) ∙ over-open (braced n) fixed (starred stars true) (x ∷ part),
     )
 
 onto-zeros : (h f z : List ℕ) → h ++ (f ++ z) ++ [] ≡ h ++ f ++ [] ++ [] ++ z
@@ -111,7 +111,7 @@ goes_fixed ns n fixed k h e = record {
   sound = record { listed = h.listed; filled = fill-on (classes n) fixed (suc k) h.front e; fitting = refl; something = some_class (classes n) (length fixed + k) (omega arith) };
   known = h.known;
   rest = replicate (suc k) 48;
-  goes = onto-zeros (head n) fixed (replicate (suc k) 48);
+  goes = onto-zeros (braced n) fixed (replicate (suc k) 48);
 }
   where
     some_class : (cs : List ℕ) (j : ℕ) → length cs ≡ suc j → is_empty cs && true ≡ false
@@ -130,7 +130,7 @@ goes_star ns n fixed stars part h f lt = record {
   };
   known = h.known;
   rest = 42 ∷ [];
-  goes = ap (λ (t : List ℕ). head n ++ fixed ++ t) (starred-push stars part) ∙ onto-star (head n) fixed (starred stars true) part;
+  goes = ap (λ (t : List ℕ). braced n ++ fixed ++ t) (starred-push stars part) ∙ onto-star (braced n) fixed (starred stars true) part;
 }
 
 -- all star elements are there
@@ -177,7 +177,7 @@ part-begins ns n fixed stars part h =
 
 -- some tag goes on from what was read
 pub good-begins : (ns : List ℕ) (p : Progress) → AllListed ns → IsGood ns p → BeginsTag ns (read_so_far p)
-good-begins ns (Head given) all h =
+good-begins ns (InNumber given) all h =
     let b = part-begins ns h.number [] [] [] (part-none ns h.number h.known (all h.number h.known)) in
     record {
       tag = b.tag;
@@ -251,33 +251,33 @@ any_from p (x ∷ xs) n e h =
       | inr more ↦ or_right (p x) (list_any p xs) (any_from p xs n more h)
     ]
 
-pub at_head : (ns : List ℕ) (n : ℕ) (given rest : List ℕ) → is_among ns n ≡ true → head n ≡ given ++ rest → with_head ns given ≡ Some (if eqb (length given) 6 then Inside (number_in given) [] [] [] else Head given)
-at_head ns n given rest e w =
-    let P : List ℕ → Type 0 = λ t. begins_with given t ≡ true in
-    ap (λ (t : Bool). if t then Some (if eqb (length given) 6 then Inside (number_in given) [] [] [] else Head given) else None) (any_from (λ m. begins_with given (head m)) ns n e (subst P (sym w) (begins_with-front given rest)))
+pub at_number : (ns : List ℕ) (n : ℕ) (given rest : List ℕ) → is_among ns n ≡ true → braced n ≡ given ++ rest → with_number ns given ≡ Some (if eqb (length given) 6 then Inside (number_in given) [] [] [] else InNumber given)
+at_number ns n given rest e w =
+    let P : List ℕ → Type 0 = λ t. starts_with nat_eq t given ≡ true in
+    ap (λ (t : Bool). if t then Some (if eqb (length given) 6 then Inside (number_in given) [] [] [] else InNumber given) else None) (any_from (λ m. starts_with nat_eq (braced m) given) ns n e (subst P (sym w) (starts_with-front given rest)))
 
 abbrev digit : ℕ → ℕ
 digit d = 48 + d
 
-pub head_run : (ns : List ℕ) (n : ℕ) → is_tag_number n ≡ true → is_among ns n ≡ true → steps ns (Head []) (head n) ≡ Some (Inside n [] [] [])
-head_run ns n l e = let a = digit (n / 1000) in let b = digit (n / 100 % 10) in let c = digit (n / 10 % 10) in let d = digit (n % 10) in
-    step-one ns (Head []) (Head (123 ∷ [])) 123 (a ∷ b ∷ c ∷ d ∷ 125 ∷ []) (at_head ns n (123 ∷ []) (a ∷ b ∷ c ∷ d ∷ 125 ∷ []) e refl)
-    ∙ step-one ns (Head (123 ∷ [])) (Head (123 ∷ a ∷ [])) a (b ∷ c ∷ d ∷ 125 ∷ []) (at_head ns n (123 ∷ a ∷ []) (b ∷ c ∷ d ∷ 125 ∷ []) e refl)
-    ∙ step-one ns (Head (123 ∷ a ∷ [])) (Head (123 ∷ a ∷ b ∷ [])) b (c ∷ d ∷ 125 ∷ []) (at_head ns n (123 ∷ a ∷ b ∷ []) (c ∷ d ∷ 125 ∷ []) e refl)
-    ∙ step-one ns (Head (123 ∷ a ∷ b ∷ [])) (Head (123 ∷ a ∷ b ∷ c ∷ [])) c (d ∷ 125 ∷ []) (at_head ns n (123 ∷ a ∷ b ∷ c ∷ []) (d ∷ 125 ∷ []) e refl)
-    ∙ step-one ns (Head (123 ∷ a ∷ b ∷ c ∷ [])) (Head (123 ∷ a ∷ b ∷ c ∷ d ∷ [])) d (125 ∷ []) (at_head ns n (123 ∷ a ∷ b ∷ c ∷ d ∷ []) (125 ∷ []) e refl)
-    ∙ step-one ns (Head (123 ∷ a ∷ b ∷ c ∷ d ∷ [])) (Inside n [] [] []) 125 [] (at_head ns n (head n) [] e refl ∙ ap (λ (m : ℕ). Some (Inside m [] [] [])) (number_back n l))
+pub number_run : (ns : List ℕ) (n : ℕ) → is_tag_number n ≡ true → is_among ns n ≡ true → steps ns (InNumber []) (braced n) ≡ Some (Inside n [] [] [])
+number_run ns n l e = let a = digit (n / 1000) in let b = digit (n / 100 % 10) in let c = digit (n / 10 % 10) in let d = digit (n % 10) in
+    step-one ns (InNumber []) (InNumber (123 ∷ [])) 123 (a ∷ b ∷ c ∷ d ∷ 125 ∷ []) (at_number ns n (123 ∷ []) (a ∷ b ∷ c ∷ d ∷ 125 ∷ []) e refl)
+    ∙ step-one ns (InNumber (123 ∷ [])) (InNumber (123 ∷ a ∷ [])) a (b ∷ c ∷ d ∷ 125 ∷ []) (at_number ns n (123 ∷ a ∷ []) (b ∷ c ∷ d ∷ 125 ∷ []) e refl)
+    ∙ step-one ns (InNumber (123 ∷ a ∷ [])) (InNumber (123 ∷ a ∷ b ∷ [])) b (c ∷ d ∷ 125 ∷ []) (at_number ns n (123 ∷ a ∷ b ∷ []) (c ∷ d ∷ 125 ∷ []) e refl)
+    ∙ step-one ns (InNumber (123 ∷ a ∷ b ∷ [])) (InNumber (123 ∷ a ∷ b ∷ c ∷ [])) c (d ∷ 125 ∷ []) (at_number ns n (123 ∷ a ∷ b ∷ c ∷ []) (d ∷ 125 ∷ []) e refl)
+    ∙ step-one ns (InNumber (123 ∷ a ∷ b ∷ c ∷ [])) (InNumber (123 ∷ a ∷ b ∷ c ∷ d ∷ [])) d (125 ∷ []) (at_number ns n (123 ∷ a ∷ b ∷ c ∷ d ∷ []) (125 ∷ []) e refl)
+    ∙ step-one ns (InNumber (123 ∷ a ∷ b ∷ c ∷ d ∷ [])) (Inside n [] [] []) 125 [] (at_number ns n (braced n) [] e refl ∙ ap (λ (m : ℕ). Some (Inside m [] [] [])) (number_back n l))
 
 fixed_run : (ns : List ℕ) (v : Tag) → IsTag v → steps ns (Inside v.no [] [] []) v.fixed ≡ Some (Inside v.no v.fixed [] [])
 fixed_run ns v h = let r = fill-run (classes v.no) v.fixed h.filled in steps-fixed ns v.no [] (classes v.no) v.fixed refl r.0
 
-pub front_run : (ns : List ℕ) (v : Tag) (more : List ℕ) → IsTag v → is_among ns v.no ≡ true → steps ns (Head []) (head v.no ++ v.fixed ++ more) ≡ steps ns (Inside v.no v.fixed [] []) more
+pub front_run : (ns : List ℕ) (v : Tag) (more : List ℕ) → IsTag v → is_among ns v.no ≡ true → steps ns (InNumber []) (braced v.no ++ v.fixed ++ more) ≡ steps ns (Inside v.no v.fixed [] []) more
 front_run ns v more h e =
-    ap (steps ns (Head [])) (append_assoc (head v.no) v.fixed more)
-    ∙ steps-then ns (Head []) (Inside v.no [] [] []) (head v.no) (v.fixed ++ more) (head_run ns v.no h.listed e)
+    ap (steps ns (InNumber [])) (append_assoc (braced v.no) v.fixed more)
+    ∙ steps-then ns (InNumber []) (Inside v.no [] [] []) (braced v.no) (v.fixed ++ more) (number_run ns v.no h.listed e)
     ∙ steps-then ns (Inside v.no [] [] []) (Inside v.no v.fixed [] []) v.fixed more (fixed_run ns v h)
 
--- from the head on
+-- from the number on
 tail_ends : (ns : List ℕ) (n : ℕ) (fixed : List ℕ) (stars : List (List ℕ)) (closed : Bool) → IsTag (record { no = n; fixed = fixed; stars = stars; closed = closed }) → length fixed ≡ length (classes n) → EndsAs ns (Inside n fixed [] []) (starred stars closed) (record { no = n; fixed = fixed; stars = stars; closed = closed })
 tail_ends ns n fixed [] true h f = absurd (wrong h.fitting)
   where
@@ -292,7 +292,7 @@ tail_ends ns n fixed [] false h f = record {
 tail_ends ns n fixed (s ∷ stars) closed h f = stars-end ns n fixed [] s stars closed (maxima n) h.listed f refl h.fitting
 
 -- a spelling is read to its end, and gives its tag
-pub spelling-ends : (ns : List ℕ) (v : Tag) → IsTag v → is_among ns v.no ≡ true → EndsAs ns (Head []) (spelling v) v
+pub spelling-ends : (ns : List ℕ) (v : Tag) → IsTag v → is_among ns v.no ≡ true → EndsAs ns (InNumber []) (spelling v) v
 spelling-ends ns v h e =
     let r = fill-run (classes v.no) v.fixed h.filled in
     let t = tail_ends ns v.no v.fixed v.stars v.closed h r.1 in

@@ -1,13 +1,14 @@
 -- Facts of the table of layouts as a whole.
 use Rattle.std.proofs.Common.{◌≡◌, ℕ, ◌<◌, Bool, true, ltb, eqb, not, ◌&&◌, List, [], ◌∷◌, ◌++◌, length, get_or, drop, refl, subst, inl, inr}
-use Rattle.std.specs.List.{list_all, list_any}
+use Rattle.std.specs.Prelude.{nat_eq}
+use Rattle.std.specs.List.{list_all, list_any, starts_with}
 use Rattle.std.proofs.lemmas.Bool.{and_parts, and_from, or_cases, or_left, or_right, eqb-true, eq-eqb, ltb-true}
 use Rattle.std.proofs.lemmas.List.Recursion.{and_at}
 use Rattle.faim_base.specs.Tags.{is_tag_number, tag_numbers}
 use Rattle.faim_tags.specs.Layouts.{row_of, classes, maxima}
-use Rattle.faim_tags.specs.Spelling.{head, is_empty}
+use Rattle.faim_tags.specs.Spelling.{braced, is_empty}
 use Rattle.faim_tags.specs.Reading.{is_among}
-use Rattle.faim_tags.specs.Steps.{number_in, begins_with}
+use Rattle.faim_tags.specs.Steps.{number_in}
 
 -- what holds of each number of a list holds of one that is among them
 pub among_all : (p : ℕ → Bool) (xs : List ℕ) (n : ℕ) → list_all p xs ≡ true → is_among xs n ≡ true → p n ≡ true
@@ -51,27 +52,27 @@ pub some_element : (n : ℕ) → is_tag_number n ≡ true → holds_some n ≡ t
 some_element n e = among_all holds_some tag_numbers n all_hold_some e
 
 abbrev comes_back : ℕ → Bool
-comes_back n = eqb (number_in (head n)) n
+comes_back n = eqb (number_in (braced n)) n
 
 all_come_back : list_all comes_back tag_numbers ≡ true
 all_come_back = refl
 
--- a head gives its number back
-pub number_back : (n : ℕ) → is_tag_number n ≡ true → number_in (head n) ≡ n
-number_back n e = eqb-true (number_in (head n)) n (among_all comes_back tag_numbers n all_come_back e)
+-- a number in braces gives itself back
+pub number_back : (n : ℕ) → is_tag_number n ≡ true → number_in (braced n) ≡ n
+number_back n e = eqb-true (number_in (braced n)) n (among_all comes_back tag_numbers n all_come_back e)
 
-pub begins_with-split : (front bytes : List ℕ) → begins_with front bytes ≡ true → bytes ≡ front ++ drop (length front) bytes
-begins_with-split [] bytes e = refl
-begins_with-split (p ∷ front) [] e = absurd cc
-begins_with-split (p ∷ front) (b ∷ bytes) e =
-    let both = and_parts (eqb p b) (begins_with front bytes) e in
+pub starts_with-split : (front bytes : List ℕ) → starts_with nat_eq bytes front ≡ true → bytes ≡ front ++ drop (length front) bytes
+starts_with-split [] bytes e = refl
+starts_with-split (p ∷ front) [] e = absurd cc
+starts_with-split (p ∷ front) (b ∷ bytes) e =
+    let both = and_parts (eqb p b) (starts_with nat_eq bytes front) e in
     let here : p ≡ b = eqb-true p b both.0 in
-    let more = begins_with-split front bytes both.1 in
+    let more = starts_with-split front bytes both.1 in
     cc
 
-pub begins_with-front : (front rest : List ℕ) → begins_with front (front ++ rest) ≡ true
-begins_with-front [] rest = refl
-begins_with-front (p ∷ front) rest = and_from (eqb p p) (begins_with front (front ++ rest)) (eq-eqb p p refl) (begins_with-front front rest)
+pub starts_with-front : (front rest : List ℕ) → starts_with nat_eq (front ++ rest) front ≡ true
+starts_with-front [] rest = refl
+starts_with-front (p ∷ front) rest = and_from (eqb p p) (starts_with nat_eq (front ++ rest) front) (eq-eqb p p refl) (starts_with-front front rest)
 
 abbrev has_few : ℕ → Bool
 has_few n = ltb (length (row_of n).elements) 100

@@ -1,17 +1,18 @@
 -- What has been read so far keeps the rules, and some tag goes on from it.
 use Rattle.std.proofs.Common.{◌≡◌, ℕ, zero, suc, ◌+◌, ◌<◌, ◌≤◌, Bool, true, false, cond, ltb, leb, eqb, ◌&&◌, ◌⊎◌, List, [], ◌∷◌, ◌++◌, length, get_or, drop, Option, Some, None, refl, sym, ap, subst, ◌∙◌, append_assoc, arith, inl, inr}
-use Rattle.std.specs.List.{list_all}
+use Rattle.std.specs.Prelude.{nat_eq}
+use Rattle.std.specs.List.{list_all, starts_with}
 use Rattle.std.proofs.lemmas.Bool.{cases_lt, ltb-true, ltb-false, and_parts, and_from, le-leb, eqb-true, eqb-false}
 use Rattle.std.proofs.lemmas.Bool.Decides.{nat_tests}
 use Rattle.std.proofs.lemmas.List.{append-nil, length_push, length-append}
 use Rattle.faim_base.specs.Tags.{is_tag_number}
 use Rattle.faim_base.specs.Text.{is_text_byte}
 use Rattle.faim_tags.specs.Layouts.{classes, maxima, is_of_class}
-use Rattle.faim_tags.specs.Spelling.{head, starred, fits, all_fit}
+use Rattle.faim_tags.specs.Spelling.{braced, starred, fits, all_fit}
 use Rattle.faim_tags.specs.Reading.{is_among}
-use Rattle.faim_tags.specs.Steps.{Progress, Head, Inside, step, steps, read_so_far, begins_with, heads_begin, number_in}
+use Rattle.faim_tags.specs.Steps.{Progress, InNumber, Inside, step, steps, read_so_far, numbers_begin, number_in}
 use Rattle.faim_tags.specs.Parts.{run_length}
-use Rattle.faim_tags.proofs.Facts.{any_found, begins_with-split, number_back}
+use Rattle.faim_tags.proofs.Facts.{any_found, starts_with-split, number_back}
 use Rattle.faim_tags.proofs.Runs.{starred-cons, counted}
 
 -- each star element fits
@@ -77,15 +78,15 @@ list_all-push (a ∷ bytes) b h e =
 abbrev pub AllListed : List ℕ → Type 0
 AllListed ns = (n : ℕ) → is_among ns n ≡ true → is_tag_number n ≡ true
 
--- part of a tag's head
+-- part of a tag's number in braces
 pub record IsFront (ns given : List ℕ) : Type 0 where
   pub number : ℕ
   pub known : is_among ns number ≡ true
   pub rest : List ℕ
-  pub whole : head number ≡ given ++ rest
+  pub whole : braced number ≡ given ++ rest
   pub more : 0 < length rest
 
--- part of a tag behind its head
+-- part of a tag after its number
 pub record IsPart (ns : List ℕ) (n : ℕ) (fixed : List ℕ) (stars : List (List ℕ)) (part : List ℕ) : Type 0 where
   pub known : is_among ns n ≡ true
   pub listed : is_tag_number n ≡ true
@@ -96,7 +97,7 @@ pub record IsPart (ns : List ℕ) (n : ℕ) (fixed : List ℕ) (stars : List (Li
   pub short : length part ≤ get_or (maxima n) (length stars) 0
 
 abbrev pub IsGood : List ℕ → Progress → Type 0
-IsGood ns (Head given) = IsFront ns given
+IsGood ns (InNumber given) = IsFront ns given
 IsGood ns (Inside n fixed stars part) = IsPart ns n fixed stars part
 
 pub run_length-none : (cs : List ℕ) → run_length cs [] ≡ 0
@@ -122,10 +123,10 @@ part-none ns n known listed = record {
 abbrev pub Takes : List ℕ → Progress → ℕ → Progress → Type 0
 Takes ns p b q = IsGood ns q × (read_so_far q ≡ read_so_far p ++ b ∷ [])
 
-head_cases : (t u : Bool) (x y q : Progress) → cond t (Some (cond u x y)) None ≡ Some q → (t ≡ true) × (((u ≡ true) × (x ≡ q)) ⊎ ((u ≡ false) × (y ≡ q)))
-head_cases true true x y q e = (refl, inl (refl, cc))
-head_cases true false x y q e = (refl, inr (refl, cc))
-head_cases false u x y q e = absurd cc
+number_cases : (t u : Bool) (x y q : Progress) → cond t (Some (cond u x y)) None ≡ Some q → (t ≡ true) × (((u ≡ true) × (x ≡ q)) ⊎ ((u ≡ false) × (y ≡ q)))
+number_cases true true x y q e = (refl, inl (refl, cc))
+number_cases true false x y q e = (refl, inr (refl, cc))
+number_cases false u x y q e = absurd cc
 
 pub inside_cases : (l t s u v : Bool) (x y z q : Progress) → cond l (cond t (Some x) None) (cond s (cond u (Some y) None) (cond v (Some z) None)) ≡ Some q
     → ((l ≡ true) × (t ≡ true) × (x ≡ q)) ⊎ (((l ≡ false) × (s ≡ true) × (u ≡ true) × (y ≡ q)) ⊎ ((l ≡ false) × (s ≡ false) × (v ≡ true) × (z ≡ q)))
@@ -136,40 +137,40 @@ inside_cases false t true false v x y z q e = absurd cc
 inside_cases false t false u true x y z q e = inr (inr (refl, refl, refl, cc))
 inside_cases false t false u false x y z q e = absurd cc
 
--- the head goes on
-takes-front : (ns given : List ℕ) (b : ℕ) → (m : ℕ) → is_among ns m ≡ true → begins_with (given ++ b ∷ []) (head m) ≡ true → eqb (length (given ++ b ∷ [])) 6 ≡ false → IsFront ns (given ++ b ∷ [])
+-- the number goes on
+takes-front : (ns given : List ℕ) (b : ℕ) → (m : ℕ) → is_among ns m ≡ true → starts_with nat_eq (braced m) (given ++ b ∷ []) ≡ true → eqb (length (given ++ b ∷ [])) 6 ≡ false → IsFront ns (given ++ b ∷ [])
 takes-front ns given b m known e short =
-    let whole = begins_with-split (given ++ b ∷ []) (head m) e in
-    let len : 6 ≡ length (given ++ b ∷ []) + length (drop (length (given ++ b ∷ [])) (head m)) = ap length whole ∙ length-append (given ++ b ∷ []) (drop (length (given ++ b ∷ [])) (head m)) in
+    let whole = starts_with-split (given ++ b ∷ []) (braced m) e in
+    let len : 6 ≡ length (given ++ b ∷ []) + length (drop (length (given ++ b ∷ [])) (braced m)) = ap length whole ∙ length-append (given ++ b ∷ []) (drop (length (given ++ b ∷ [])) (braced m)) in
     let ne = eqb-false (length (given ++ b ∷ [])) 6 short in
-    record { number = m; known = known; rest = drop (length (given ++ b ∷ [])) (head m); whole = whole; more = grind arith }
+    record { number = m; known = known; rest = drop (length (given ++ b ∷ [])) (braced m); whole = whole; more = grind arith }
 
 none_left : (xs : List ℕ) → length xs ≡ 0 → xs ≡ []
 none_left [] e = refl
 none_left (x ∷ xs) e = absurd (omega arith)
 
--- the head is whole
-pub whole_head : (given : List ℕ) (m : ℕ) → begins_with given (head m) ≡ true → length given ≡ 6 → given ≡ head m
-whole_head given m e six =
-    let whole = begins_with-split given (head m) e in
-    let len : 6 ≡ length given + length (drop (length given) (head m)) = ap length whole ∙ length-append given (drop (length given) (head m)) in
-    let over = none_left (drop (length given) (head m)) (omega arith) in
+-- the number is whole
+pub whole_number : (given : List ℕ) (m : ℕ) → starts_with nat_eq (braced m) given ≡ true → length given ≡ 6 → given ≡ braced m
+whole_number given m e six =
+    let whole = starts_with-split given (braced m) e in
+    let len : 6 ≡ length given + length (drop (length given) (braced m)) = ap length whole ∙ length-append given (drop (length given) (braced m)) in
+    let over = none_left (drop (length given) (braced m)) (omega arith) in
     sym (whole ∙ ap (λ (t : List ℕ). given ++ t) over ∙ append-nil given)
 
-pub no_part : (n : ℕ) → read_so_far (Inside n [] [] []) ≡ head n
+pub no_part : (n : ℕ) → read_so_far (Inside n [] [] []) ≡ braced n
 no_part n = refl
 
-pub step-head : (ns given : List ℕ) (b : ℕ) (q : Progress) → AllListed ns → step ns (Head given) b ≡ Some q → Takes ns (Head given) b q
-step-head ns given b q all e =
-    let c = head_cases (heads_begin ns (given ++ b ∷ [])) (eqb (length (given ++ b ∷ [])) 6) (Inside (number_in (given ++ b ∷ [])) [] [] []) (Head (given ++ b ∷ [])) q e in
-    let f = any_found (λ n. begins_with (given ++ b ∷ []) (head n)) ns c.0 in
+pub step-number : (ns given : List ℕ) (b : ℕ) (q : Progress) → AllListed ns → step ns (InNumber given) b ≡ Some q → Takes ns (InNumber given) b q
+step-number ns given b q all e =
+    let c = number_cases (numbers_begin ns (given ++ b ∷ [])) (eqb (length (given ++ b ∷ [])) 6) (Inside (number_in (given ++ b ∷ [])) [] [] []) (InNumber (given ++ b ∷ [])) q e in
+    let f = any_found (λ n. starts_with nat_eq (braced n) (given ++ b ∷ [])) ns c.0 in
     elim c.1 [
       | inl w ↦
-          let g = whole_head (given ++ b ∷ []) f.0 f.2 (eqb-true (length (given ++ b ∷ [])) 6 w.0) in
+          let g = whole_number (given ++ b ∷ []) f.0 f.2 (eqb-true (length (given ++ b ∷ [])) 6 w.0) in
           let back : number_in (given ++ b ∷ []) ≡ f.0 = ap number_in g ∙ number_back f.0 (all f.0 f.1) in
           let is : Inside f.0 [] [] [] ≡ q = sym (ap (λ (n : ℕ). Inside n [] [] []) back) ∙ w.1 in
-          subst (λ (r : Progress). Takes ns (Head given) b r) is (part-none ns f.0 f.1 (all f.0 f.1), no_part f.0 ∙ sym g)
-      | inr w ↦ subst (λ (r : Progress). Takes ns (Head given) b r) w.1 (takes-front ns given b f.0 f.1 f.2 w.0, refl)
+          subst (λ (r : Progress). Takes ns (InNumber given) b r) is (part-none ns f.0 f.1 (all f.0 f.1), no_part f.0 ∙ sym g)
+      | inr w ↦ subst (λ (r : Progress). Takes ns (InNumber given) b r) w.1 (takes-front ns given b f.0 f.1 f.2 w.0, refl)
     ]
 
 regroup-fixed : (h f : List ℕ) (b : ℕ) → h ++ (f ++ b ∷ []) ++ [] ++ [] ≡ h ++ f ++ [] ++ [] ++ b ∷ []
@@ -198,7 +199,7 @@ takes-fixed ns n fixed stars part b h lt e =
           texts = h.texts;
           short = h.short;
         },
-        rw (w.1, w.2) (regroup-fixed (head n) fixed b),
+        rw (w.1, w.2) (regroup-fixed (braced n) fixed b),
       )
     ]
 
@@ -213,7 +214,7 @@ takes-star ns n fixed stars part b h le lt e = (
     texts = refl;
     short = omega arith;
   },
-  rw e (ap (λ (t : List ℕ). head n ++ fixed ++ t ++ []) (starred-push stars part) ∙ regroup-star (head n) fixed (starred stars true) part 42),
+  rw e (ap (λ (t : List ℕ). braced n ++ fixed ++ t ++ []) (starred-push stars part) ∙ regroup-star (braced n) fixed (starred stars true) part 42),
 )
 
 takes-text : (ns : List ℕ) (n : ℕ) (fixed : List ℕ) (stars : List (List ℕ)) (part : List ℕ) (b : ℕ) → IsPart ns n fixed stars part → length (classes n) ≤ length fixed → length part < get_or (maxima n) (length stars) 0 → is_text_byte b ≡ true → Takes ns (Inside n fixed stars part) b (Inside n fixed stars (part ++ b ∷ []))
@@ -227,7 +228,7 @@ takes-text ns n fixed stars part b h le lt e = (
     texts = list_all-push part b h.texts e;
     short = rw (length_push part b) (omega arith);
   },
-  regroup-text (head n) fixed (starred stars true) part b,
+  regroup-text (braced n) fixed (starred stars true) part b,
 )
 
 step-inside : (ns : List ℕ) (n : ℕ) (fixed : List ℕ) (stars : List (List ℕ)) (part : List ℕ) (b : ℕ) (q : Progress) → IsPart ns n fixed stars part → step ns (Inside n fixed stars part) b ≡ Some q → Takes ns (Inside n fixed stars part) b q
@@ -241,7 +242,7 @@ step-inside ns n fixed stars part b q h e =
     ]
 
 pub step-good : (ns : List ℕ) (p : Progress) (b : ℕ) (q : Progress) → AllListed ns → IsGood ns p → step ns p b ≡ Some q → Takes ns p b q
-step-good ns (Head given) b q all h e = step-head ns given b q all e
+step-good ns (InNumber given) b q all h e = step-number ns given b q all e
 step-good ns (Inside n fixed stars part) b q all h e = step-inside ns n fixed stars part b q h e
 
 pub steps_cases : (ns : List ℕ) (o : Option Progress) (bytes : List ℕ) (q : Progress) → (elim o [ None ↦ None | Some p ↦ steps ns p bytes ]) ≡ Some q → (p : Progress) × (o ≡ Some p) × (steps ns p bytes ≡ Some q)

@@ -26,7 +26,7 @@ stop_at : (c : ℕ) (cs : List ℕ) (b : ℕ) (bytes : List ℕ) (t : Bool) → 
 stop_at c cs b bytes true e more lt lb = more (omega arith) (omega arith)
 stop_at c cs b bytes false e more lt lb = e
 
--- the byte behind them isn't of its class
+-- the byte after them isn't of its class
 pub run_length-stop : (cs bytes : List ℕ) → run_length cs bytes < length cs → run_length cs bytes < length bytes → is_of_class (get_or cs (run_length cs bytes) 0) (get_or bytes (run_length cs bytes) 0) ≡ false
 run_length-stop [] bytes lt lb = absurd (omega arith)
 run_length-stop (c ∷ cs) [] lt lb = absurd (omega arith)

@@ -5,6 +5,7 @@ pub mod Counts
 pub mod Goods
 pub mod Ends
 pub mod Greedy
-pub mod Heads
+pub mod NumberLemmas
 pub mod Meaning
 pub mod Built
+pub mod Judgements

@@ -1,5 +1,7 @@
 -- What each tag holds (docs/FORMATS.md, "Tags").
-use Rattle.std.specs.Prelude.{ℕ, ◌+◌, ◌==◌, ◌&&◌, nat_lt, Bool, true, List, [], ◌∷◌, ◌++◌, length, map, sum, replicate, if◌then◌else◌}
+use Rattle.std.specs.Prelude.{ℕ, ◌+◌, ◌==◌, ◌&&◌, nat_lt, Bool, true, List, [], ◌∷◌, length, map, sum, replicate, if◌then◌else◌}
+use Rattle.std.specs.List.{find, flat_map}
+use Rattle.std.specs.Option.{unwrap_or}
 use Rattle.faim_base.specs.Text.{is_text_byte, is_digit}
 
 -- a tag's number, its fixed elements, each with its class and its length, and the greatest lengths of its star elements
@@ -8,10 +10,11 @@ pub record Row : Type 0 where
   pub elements : List (ℕ × ℕ)
   pub most : List ℕ
 
--- the classes of bytes are named by the letters n and t
+-- so many digits: the letter n names their class
 abbrev pub digits : ℕ → ℕ × ℕ
 digits length = (110, length)
 
+-- so many text bytes: the letter t names their class
 abbrev pub text : ℕ → ℕ × ℕ
 text length = (116, length)
 
@@ -82,18 +85,13 @@ rows =
     ∷ lines 9000 12
     ∷ []
 
-abbrev pub find_row : ℕ → List Row → Row
-find_row n [] = plain n []
-find_row n (r ∷ more) = if r.number == n then r else find_row n more
-
 -- the row of a number; a number that isn't there has no elements
 unfoldable pub row_of : ℕ → Row
-row_of n = find_row n rows
+row_of n = unwrap_or (find (λ r. r.number == n) rows) (plain n [])
 
 -- the class of each byte of fixed elements
 abbrev pub each_class : List (ℕ × ℕ) → List ℕ
-each_class [] = []
-each_class (e ∷ more) = replicate e.1 e.0 ++ each_class more
+each_class elements = flat_map (λ e. replicate e.1 e.0) elements
 
 -- the class of each byte of a tag's fixed elements, joined
 abbrev pub classes : ℕ → List ℕ
@@ -107,7 +105,7 @@ maxima n = (row_of n).most
 abbrev pub is_of_class : ℕ → ℕ → Bool
 is_of_class class byte = if class == 110 then is_digit byte else is_text_byte byte
 
--- the bytes of the longest spelling of a row's tag: its head, its fixed bytes, and each star element with its star
+-- the bytes of the longest spelling of a row's tag: its number in braces, its fixed bytes, and each star element with its star
 abbrev pub longest : Row → ℕ
 longest r = 6 + length (each_class r.elements) + sum (map (λ m. m + 1) r.most)
 

@@ -1,4 +1,4 @@
--- The parts of a tag as they stand at the front of bytes.
+-- The parts of a tag as they stand at the front of bytes. No law cites them: they serve the reader of one tag alone.
 use Rattle.std.specs.Prelude.{ℕ, suc, ◌==◌, List, [], ◌∷◌, take, drop, replicate, if◌then◌else◌, slice_index}
 use Rattle.faim_tags.specs.Layouts.{is_of_class}
 

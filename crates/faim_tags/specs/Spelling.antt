@@ -1,6 +1,7 @@
 -- How a tag is spelled (docs/FORMATS.md, "Tags").
 use Rattle.std.specs.Prelude.{◌≡◌, ℕ, ◌+◌, ◌/◌, ◌%◌, ◌==◌, ◌&&◌, ◌||◌, not, nat_le, Bool, true, false, List, [], ◌∷◌, ◌++◌, length, if◌then◌else◌}
 use Rattle.std.specs.List.{list_all}
+use lib.Pointwise.{pointwise}
 use Rattle.faim_base.specs.Tags.{is_tag_number}
 use Rattle.faim_base.specs.Text.{is_text_byte}
 use Rattle.faim_tags.specs.Layouts.{classes, maxima, is_of_class}
@@ -14,10 +15,7 @@ pub record Tag : Type 0 where
 
 -- as many bytes as classes, each of its class
 abbrev pub fill : List ℕ → List ℕ → Bool
-fill [] [] = true
-fill [] (b ∷ bytes) = false
-fill (c ∷ more) [] = false
-fill (c ∷ more) (b ∷ bytes) = is_of_class c b && fill more bytes
+fill classes bytes = pointwise is_of_class classes bytes
 
 -- at most so many text bytes
 abbrev pub fits : ℕ → List ℕ → Bool
@@ -30,6 +28,7 @@ all_fit [] (s ∷ stars) closed = false
 all_fit (m ∷ most) (s ∷ []) closed = fits m s && (closed || (length s == m))
 all_fit (m ∷ most) (s ∷ t ∷ stars) closed = fits m s && all_fit most (t ∷ stars) closed
 
+-- there is none
 abbrev pub is_empty : {X : Type 0} → List X → Bool
 is_empty [] = true
 is_empty (x ∷ xs) = false
@@ -42,8 +41,8 @@ pub record IsTag (v : Tag) : Type 0 where
   pub something : is_empty (classes v.no) && is_empty v.stars ≡ false
 
 -- a number in braces, with four digits
-abbrev pub head : ℕ → List ℕ
-head n = 123 ∷ (48 + n / 1000) ∷ (48 + n / 100 % 10) ∷ (48 + n / 10 % 10) ∷ (48 + n % 10) ∷ 125 ∷ []
+abbrev pub braced : ℕ → List ℕ
+braced n = 123 ∷ (48 + n / 1000) ∷ (48 + n / 100 % 10) ∷ (48 + n / 10 % 10) ∷ (48 + n % 10) ∷ 125 ∷ []
 
 -- each star element followed by a star, the last only where it is closed
 abbrev pub starred : List (List ℕ) → Bool → List ℕ
@@ -53,7 +52,7 @@ starred (s ∷ t ∷ stars) closed = s ++ 42 ∷ starred (t ∷ stars) closed
 
 -- the bytes of a tag
 abbrev pub spelling : Tag → List ℕ
-spelling v = head v.no ++ v.fixed ++ starred v.stars v.closed
+spelling v = braced v.no ++ v.fixed ++ starred v.stars v.closed
 
 -- these bytes spell this tag
 pub record SpellsTag (v : Tag) (bytes : List ℕ) : Type 0 where

@@ -4,8 +4,7 @@ ghost use Rattle.faim_tags.specs.Layouts.{is_of_class, each_class};
 ghost use Rattle.faim_tags.specs.Reading.{goes_on};
 ghost use Rattle.faim_tags.specs.Parts.{run_length};
 
-use crate::slices::after;
-use faim_base::{is_digit, is_text_byte};
+use faim_base::{after, is_digit, is_text_byte};
 
 fn is_of_class(class: u8, b: u8) -> bool
     ensures { result ≡ is_of_class class b }

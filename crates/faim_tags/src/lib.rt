@@ -2,18 +2,20 @@
 #![tactic(auto)]
 
 mod classes;
-mod head;
 mod laws;
 mod lookup;
+mod number;
 mod reading;
-mod slices;
 mod table;
 mod value;
 mod writing;
 
-pub use laws::{one_spelling, one_tag_in_front, steps_tell_what_begins, table_is_sound};
+pub use laws::{
+    each_front_is_judged, one_refusal_in_front, one_spelling, one_tag_in_front,
+    steps_tell_what_begins, table_is_sound,
+};
 pub use lookup::layout;
-pub use reading::{TAG_NUMBERS, read_tag, read_tag_among};
+pub use reading::{moved, read_tag, read_tag_among};
 pub use table::Layout;
 pub use value::{Stars, TagValue};
 pub use writing::spell;

@@ -4,25 +4,18 @@ ghost use Rattle.std.specs.List.{list_all};
 ghost use Rattle.faim_base.specs.Tags.{is_tag_number, tag_numbers};
 ghost use Rattle.faim_tags.specs.Layouts.{classes, maxima};
 ghost use Rattle.faim_tags.specs.Spelling.{IsTag, starred};
-ghost use Rattle.faim_tags.specs.Reading.{FoundTag, RefusesTag, is_past};
-ghost use Rattle.faim_tags.specs.Steps.{Inside, may_end, tag_of, Stuck, Completes, Fails, moved};
+ghost use Rattle.faim_tags.specs.Reading.{FoundTag, RefusesTag, is_past, moved};
+ghost use Rattle.faim_tags.specs.Steps.{Inside, may_end, tag_of, Stuck, Completes, Fails};
 ghost use Rattle.faim_tags.specs.Parts.{closed_stars, run_length};
 
 use crate::classes::{goes_on, length_of_fixed, run_of, run_of_fixed};
-use crate::head::{read_head, stop_at};
-use crate::slices::{after, before, copied};
-use crate::{Layout, Stars, TagValue, layout};
-use faim_base::{Bytes, NoMemory, Refused, TagNo};
+use crate::number::{read_number, stop_at};
+use crate::value::copied;
+use crate::{Stars, TagValue, layout};
+use faim_base::{Bytes, NoMemory, Refused, TAG_NUMBERS, TagNo, after, before};
 use std::alloc::Global;
 
-/// The numbers of the tags of the format, in order.
-pub static TAG_NUMBERS: [u16; 34] = [
-    1100, 1110, 1120, 1130, 1500, 1510, 1520, 2000, 3100, 3320, 3400, 3500, 3600, 4000, 4100, 4200,
-    4320, 4400, 5000, 5100, 5200, 5400, 6000, 6100, 6110, 6200, 6210, 6300, 6310, 6400, 6410, 6420,
-    6500, 9000,
-];
-
-/// The tag at the front of the bytes, and how many bytes it has: behind it nothing stands, or a byte that is neither a
+/// The tag at the front of the bytes, and how many bytes it has: after it nothing stands, or a byte that is neither a
 /// text byte nor a star. `Byte` names the first byte with which no tag's spelling goes on, `Cut` says that the bytes
 /// end inside one. It never answers `Missing` (docs/FORMATS.md, "Tags").
 pub fn read_tag(alloc: Global, bytes: &[u8]) -> Result<(TagValue, usize), Refused>
@@ -43,28 +36,29 @@ pub fn read_tag_among(
     ensures found { IfOk result (λ r. FoundTag numbers.now bytes.now r.0 r.1) }
     ensures refused { IfErr result (λ e. RefusesTag numbers.now bytes.now e) }
 {
-    let no = match read_head(bytes, numbers) {
+    let no = match read_number(bytes, numbers) {
         Ok(no) => no,
         Err(refused) => return Err(refused),
     };
     match read_elements(alloc, no, after(bytes, 6)) {
         Ok((value, length)) => Ok((value, 6 + length)),
-        Err(refused) => Err(behind_head(refused)),
+        Err(refused) => Err(moved(refused, 6)),
     }
 }
 
-// A refusal of what stands behind a head, told of the bytes with the head.
-fn behind_head(refused: Refused) -> Refused
-    requires { (k : ℕ) → refused ≡ Refused.Byte k → 6 + k < 2 ^ 64 }
-    ensures { result ≡ moved 6 refused }
+/// The same refusal, told of bytes that begin `by` bytes earlier: the place in `Byte` is higher by so many, and every
+/// other refusal stays.
+pub fn moved(refused: Refused, by: usize) -> Refused
+    requires { (k : ℕ) → refused ≡ Refused.Byte k → by + k < 2 ^ 64 }
+    ensures { result ≡ moved by refused }
 {
     match refused {
-        Refused::Byte(place) => Refused::Byte(6 + place),
+        Refused::Byte(place) => Refused::Byte(by + place),
         other => other,
     }
 }
 
-// The elements of a tag whose head stands before the bytes.
+// The elements of a tag whose number stands before the bytes.
 fn read_elements(alloc: Global, no: TagNo, bytes: &[u8]) -> Result<(TagValue, usize), Refused>
     requires { is_tag_number no ≡ true }
     ensures { MatchResult result
@@ -82,7 +76,7 @@ fn read_elements(alloc: Global, no: TagNo, bytes: &[u8]) -> Result<(TagValue, us
     }
 }
 
-// What stands behind the fixed bytes and the closed star elements, and with it the tag, where it may end there.
+// What stands after the fixed bytes and the closed star elements, and with it the tag, where it may end there.
 fn read_last(
     alloc: Global,
     no: TagNo,
@@ -118,7 +112,7 @@ fn read_last(
     }
 }
 
-// What stands of a further star element behind the closed ones.
+// What stands of a further star element after the closed ones.
 fn last_part<'a>(
     no: TagNo,
     bytes: &'a [u8],
@@ -142,13 +136,10 @@ fn last_part<'a>(
 fn greatest(no: TagNo, place: usize) -> u8
     ensures { result ≡ slice_index (maxima no) place }
 {
-    match layout(no).stars.get(place) {
-        Some(most) => *most,
-        None => 0,
-    }
+    *layout(no).stars.get(place).unwrap_or(&0)
 }
 
-// A tag may end behind these parts, and no byte of it comes next.
+// A tag may end after these parts, and no byte of it comes next.
 fn is_over(no: TagNo, fixed: &[u8], stars: &[Bytes], part: &[u8], rest: &[u8]) -> bool
     requires { length fixed.now ≡ length (classes no) }
     ensures { result ≡ (may_end (Inside no fixed.now stars.now part.now) && is_past rest.now) }
@@ -156,7 +147,7 @@ fn is_over(no: TagNo, fixed: &[u8], stars: &[Bytes], part: &[u8], rest: &[u8]) -
     may_end(no, fixed, stars, part) && is_past(rest)
 }
 
-// A tag may end behind its fixed elements, its closed star elements, and these bytes of a further one.
+// A tag may end after its fixed elements, its closed star elements, and these bytes of a further one.
 fn may_end(no: TagNo, fixed: &[u8], stars: &[Bytes], part: &[u8]) -> bool
     requires { length fixed.now ≡ length (classes no) }
     ensures { result ≡ may_end (Inside no fixed.now stars.now part.now) }
@@ -172,10 +163,7 @@ fn may_end(no: TagNo, fixed: &[u8], stars: &[Bytes], part: &[u8]) -> bool
 fn is_past(bytes: &[u8]) -> bool
     ensures { result ≡ is_past bytes.now }
 {
-    match bytes.first() {
-        Some(b) => !goes_on(*b),
-        None => true,
-    }
+    bytes.first().is_none_or(|b| !goes_on(*b))
 }
 
 // The tag of these parts, of which the last star element has no star, if it has a byte.
@@ -189,7 +177,7 @@ fn built(
     requires { IsTag (tag_of (Inside no fixed.now stars part.now)) }
     ensures { IfOk result (λ v. v ≡ tag_of (Inside no fixed.now stars part.now)) }
 {
-    let fixed = copied(alloc, fixed, fixed.len())?;
+    let fixed = copied(alloc, fixed)?;
     if part.is_empty() {
         let closed = !stars.as_slice().is_empty();
         return Ok(TagValue {
@@ -200,7 +188,7 @@ fn built(
         });
     }
     let mut stars = stars;
-    stars.push(copied(alloc, part, part.len())?)?;
+    stars.push(copied(alloc, part)?)?;
     Ok(TagValue {
         no,
         fixed,
@@ -223,7 +211,7 @@ fn read_closed(alloc: Global, maxima: &[u8], bytes: &[u8]) -> Result<(Stars, usi
         if !is_star(rest, count) {
             return Ok((stars, place));
         }
-        stars.push(copied(alloc, rest, count)?)?;
+        stars.push(copied(alloc, before(rest, count))?)?;
         place += count + 1;
     }
     Ok((stars, place))
@@ -233,8 +221,5 @@ fn read_closed(alloc: Global, maxima: &[u8], bytes: &[u8]) -> Result<(Stars, usi
 fn is_star(bytes: &[u8], place: usize) -> bool
     ensures { result ≡ (slice_index bytes.now place == 42) }
 {
-    match bytes.get(place) {
-        Some(b) => *b == b'*',
-        None => false,
-    }
+    bytes.get(place) == Some(&b'*')
 }

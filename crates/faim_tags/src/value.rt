@@ -1,7 +1,8 @@
 // One tag as a value.
-ghost use Rattle.std.specs.Prelude.{◌≡◌};
+ghost use Rattle.std.specs.Prelude.{◌≡◌, IfOk};
 
-use faim_base::{Bytes, Items, TagNo};
+use faim_base::{Bytes, Items, NoMemory, TagNo};
+use std::alloc::Global;
 use std::marker::Model;
 
 /// A list of star elements, each without its star.
@@ -25,4 +26,13 @@ impl Model for TagValue {
     ghost view = { λ v. record { no = v.no; fixed = v.fixed; stars = v.stars; closed = v.closed } };
 
     ghost invariant = { λ v. IsTag (record { no = v.no; fixed = v.fixed; stars = v.stars; closed = v.closed }) };
+}
+
+// The bytes, as a list of their own.
+pub(crate) fn copied(alloc: Global, bytes: &[u8]) -> Result<Bytes, NoMemory>
+    ensures { IfOk result (λ copy. copy ≡ bytes.now) }
+{
+    let mut copy = Bytes::new(alloc);
+    copy.extend(bytes)?;
+    Ok(copy)
 }

@@ -1,9 +1,9 @@
 // The bytes of one tag.
 ghost use Rattle.std.specs.Prelude.{◌≡◌, ◌++◌, ℕ, List, take, length, OnOk, OnErr};
-ghost use Rattle.faim_tags.specs.Spelling.{spelling, starred, head, SpellsTag, IsTag};
+ghost use Rattle.faim_tags.specs.Spelling.{spelling, starred, braced, SpellsTag, IsTag};
 
 use crate::TagValue;
-use crate::head::head;
+use crate::number::braced;
 use faim_base::{Bytes, NoMemory};
 
 /// Appends the one spelling of the tag. `NoMemory` leaves `out` as it was.
@@ -28,7 +28,7 @@ fn append_tag(value: &TagValue, out: &mut Vec<u8>) -> Result<(), NoMemory>
     ensures kept { take (length out.old.items) out.new.items ≡ out.old.items }
     ensures sound { IsTag value.now }
 {
-    out.extend_from_slice(&head(value.no.get()))?;
+    out.extend_from_slice(&braced(value.no.get()))?;
     out.extend_from_slice(value.fixed.as_slice())?;
     append_stars(value.stars.as_slice(), value.closed, out)
 }

@@ -1,9 +1,10 @@
 -- What the end of a run says, by what was read and written.
 use Rattle.std.proofs.Common.{◌≡◌, ◌≢◌, ◌⊎◌, inl, inr, ⊎_elim, ℕ, zero, suc, ◌+◌, ◌<◌, ◌≤◌, Bool, true, false, List, [], ◌∷◌, ◌++◌, length, take, length-append, append-nil, Option, Some, None, sym, ◌∙◌, ap, refl, subst, arith}
-use Rattle.std.specs.Prelude.{Result, Ok, Err, IfSome, IsSomeAnd, nat_le, if◌then◌else◌}
+use Rattle.std.specs.Prelude.{Result, Ok, Err, IfSome, nat_le, if◌then◌else◌}
 use Rattle.std.specs.Io.KnownBytes.{Appends, Consumes, IsAtEnd}
 use Rattle.std.proofs.lemmas.Bool.Decides.{nat_tests}
 use Rattle.std.proofs.lemmas.List.{length-take-le}
+use Rattle.faim_base.specs.Limits.{longest_message}
 use Rattle.faim_base.specs.declared.judgement.Refused as refusals
 use Rattle.faim_base.specs.declared.judgement.Refused.TheVariants as refused
 use Rattle.faim_message.specs.declared.form.Form.{Form}
@@ -22,11 +23,12 @@ use Rattle.faim_top.specs.declared.status.Reason.TheVariants as reasons
 use Rattle.faim_top.specs.Checks.{IsInput, IsRefused, accepted_text, refusal_line}
 use Rattle.faim_top.specs.Grammar.{script_of, script_in, size_limit}
 use Rattle.faim_top.specs.Lines.{lines_of}
-use Rattle.faim_top.specs.Ends.{Ended, Answers, Checked, AppendsPart, IsAnswered, Writes, WritesPart, limit_of, answer_text, answer_status}
+use Rattle.faim_top.specs.Seen.{Seen}
+use Rattle.faim_top.specs.Ends.{Ended, Answers, Checked, AppendsPart, IsAnswered, Streams, Writes, WritesPart, limit_of, answer_text, answer_status}
 
 -- no message is longer than the longest
 abbrev pub AreShort : Type 0
-AreShort = (m : Content) (bytes : List ℕ) → Spells m bytes → length bytes ≤ 4_234
+AreShort = (m : Content) (bytes : List ℕ) → Spells m bytes → length bytes ≤ longest_message
 
 -- a message isn't refused
 abbrev pub NotRefused : Type 0
@@ -53,7 +55,7 @@ too_long : (text : List ℕ) → size_limit < length text → script_of text ≡
 too_long text long = over_limit (nat_le (length text) size_limit) (script_in (lines_of text)) (grind (arith, nat_tests))
 
 -- what begins a message is no longer than one
-begins_short : AreShort → (form : Form) (bytes : List ℕ) → Begins form bytes → length bytes ≤ 4_234
+begins_short : AreShort → (form : Form) (bytes : List ℕ) → Begins form bytes → length bytes ≤ longest_message
 begins_short short form bytes b =
     omega (arith, short b.message (message_spelling b.message) (record { sound = b.sound; spelled = refl }), ap length b.goes, length-append bytes b.rest)
 
@@ -62,28 +64,28 @@ take_left zero text more le = refl
 take_left (suc k) [] more le = absurd (omega (arith, le))
 take_left (suc k) (b ∷ text) more le = ap (λ (l : List ℕ). b ∷ l) (take_left k text more (omega (arith, le)))
 
--- bytes that are longer than a message stop where they stop, whatever comes behind them
-stops_on : AreShort → (text more : List ℕ) (p : ℕ) → length text ≡ 4_235 → StopsAt Input text p → StopsAt Input (text ++ more) p
+-- bytes that are longer than a message stop where they stop, whatever comes after them
+stops_on : AreShort → (text more : List ℕ) (p : ℕ) → length text ≡ longest_message + 1 → StopsAt Input text p → StopsAt Input (text ++ more) p
 stops_on short text more p long s =
     let P : List ℕ → Type 0 = λ t. Begins Input t in
     record {
       short = omega (arith, s.short, length-append text more);
       begins = subst P (sym (take_left p text more (omega (arith, s.short)))) s.begins;
       longest = λ k le b.
-          let few : k ≤ 4_234 = omega (arith, begins_short short Input (take k (text ++ more)) b, length-take-le k (text ++ more) le) in
+          let few : k ≤ longest_message = omega (arith, begins_short short Input (take k (text ++ more)) b, length-take-le k (text ++ more) le) in
           s.longest k (omega (arith, few, long)) (subst P (take_left k text more (omega (arith, few, long))) b);
     }
 
-refuses_on : AreShort → (text more : List ℕ) (why : refusals.Refused) → length text ≡ 4_235 → IsRefused text why → IsRefused (text ++ more) why
+refuses_on : AreShort → (text more : List ℕ) (why : refusals.Refused) → length text ≡ longest_message + 1 → IsRefused text why → IsRefused (text ++ more) why
 refuses_on short text more (refused.Byte p) long h = record { refuses = stops_on short text more p long h.refuses; judged = h.judged }
 refuses_on short text more refused.Cut long h = absurd (omega (arith, begins_short short Input text h.refuses.0, long))
 refuses_on short text more (refused.Missing n) long h = absurd (omega (arith, begins_short short Input text h.refuses.0, long))
 refuses_on short text more refused.NoMemory long h = absurd (h.judged refl)
 
-input_short : AreShort → (text : List ℕ) → IsInput text → length text ≤ 4_234
+input_short : AreShort → (text : List ℕ) → IsInput text → length text ≤ longest_message
 input_short short text m = short m.message text m.spells
 
--- more than the command takes is answered without what comes behind it
+-- more than the command takes is answered without what comes after it
 answers_on : AreShort → (command : Command) (text more : List ℕ) (status : Status) (bytes : List ℕ) → length text ≡ limit_of command + 1
     → Answers command text status bytes → Answers command (text ++ more) status bytes
 answers_on short Check text more status bytes long (inl h) = absurd (omega (arith, input_short short text h.0, long))
@@ -135,36 +137,46 @@ done_at_end short Check rest text bytes (inr long) (inl h) = absurd (omega (arit
 done_at_end short Check rest text bytes (inr long) (inr h) = absurd (let wrong : Done ≡ Refused (reasons.Text h.0) = h.2 in cc)
 done_at_end short Replay rest text bytes (inr long) h = absurd (done_short (script_of text) h.0 (record { line = 0; why = Size }) (too_long text (omega (arith, long))))
 
-writes : (command : Command) (left old new : Option (List ℕ)) (status : Status) (bytes : List ℕ)
-    → IfSome left (λ whole. Answers command whole status bytes) → Appends old new bytes → IfSome left (λ whole. Writes command whole status old new)
-writes command None old new status bytes h grew = tt
-writes command (Some xs) old new status bytes h grew = record { bytes = bytes; answers = h; written = grew }
+writes : (command : Command) (left : Option (List ℕ)) (w : Seen (Option (List ℕ))) (status : Status) (bytes : List ℕ)
+    → IfSome left (λ whole. Answers command whole status bytes) → Appends w.before w.after bytes → IfSome left (λ whole. Writes command whole status w)
+writes command None w status bytes h grew = tt
+writes command (Some xs) w status bytes h grew = record { bytes = bytes; answers = h; grows = grew }
 
 -- all of the answer is written
-pub written : AreShort → (command : Command) (left rest old new : Option (List ℕ)) (text : List ℕ) (status : Status) (bytes : List ℕ)
-    → Consumes left rest text → ReadWhole command rest text → Answers command text status bytes → Appends old new bytes → Ended command status left rest old new
-written short command left rest old new text status bytes taken whole h grew =
-    let P : Status → Type 0 = λ s. Ended command s left rest old new in
-    let Q : Status → Type 0 = λ s. Answers command text s bytes in
+pub written : AreShort → (command : Command) (s : Streams) (text : List ℕ) (status : Status) (bytes : List ℕ)
+    → Consumes s.left.before s.left.after text → ReadWhole command s.left.after text → Answers command text status bytes → Appends s.written.before s.written.after bytes → Ended command status s
+written short command s text status bytes taken whole h grew =
+    let P : Status → Type 0 = λ st. Ended command st s in
+    let Q : Status → Type 0 = λ st. Answers command text st bytes in
     ⊎_elim
     (λ (e : status ≡ Done).
     let done = subst Q e h in
-    subst P (sym e) (writes command left old new Done bytes (answers_whole short command left rest text Done bytes taken whole done) grew, done_at_end short command rest text bytes whole done))
+    subst P (sym e) (writes command s.left.before s.written Done bytes (answers_whole short command s.left.before s.left.after text Done bytes taken whole done) grew, done_at_end short command s.left.after text bytes whole done))
     (λ (e : (why : Reason) × (status ≡ Refused why)).
     let f : status ≡ Refused e.0 = e.1 in
-    subst P (sym f) (writes command left old new (Refused e.0) bytes (answers_whole short command left rest text (Refused e.0) bytes taken whole (subst Q f h)) grew))
+    subst P (sym f) (writes command s.left.before s.written (Refused e.0) bytes (answers_whole short command s.left.before s.left.after text (Refused e.0) bytes taken whole (subst Q f h)) grew))
     (proper command text status bytes h)
 
 -- a part of it is
-writes_part : (command : Command) (left old new : Option (List ℕ)) (status : Status) (bytes : List ℕ)
-    → IfSome left (λ whole. Answers command whole status bytes) → AppendsPart old new bytes → IfSome left (λ whole. WritesPart command whole old new)
-writes_part command None old new status bytes h part = tt
-writes_part command (Some xs) old new status bytes h part = record { status = status; bytes = bytes; answers = h; part = part }
+writes_part : (command : Command) (left : Option (List ℕ)) (w : Seen (Option (List ℕ))) (status : Status) (bytes : List ℕ)
+    → IfSome left (λ whole. Answers command whole status bytes) → AppendsPart w bytes → IfSome left (λ whole. WritesPart command whole w)
+writes_part command None w status bytes h part = tt
+writes_part command (Some xs) w status bytes h part = record { status = status; bytes = bytes; answers = h; part = part }
 
-pub written_part : AreShort → (command : Command) (left rest old new : Option (List ℕ)) (text : List ℕ) (status : Status) (bytes : List ℕ)
-    → Consumes left rest text → ReadWhole command rest text → Answers command text status bytes → AppendsPart old new bytes → Ended command WriteFault left rest old new
-written_part short command left rest old new text status bytes taken whole h part =
-    writes_part command left old new status bytes (answers_whole short command left rest text status bytes taken whole h) part
+pub written_part : AreShort → (command : Command) (s : Streams) (text : List ℕ) (status : Status) (bytes : List ℕ)
+    → Consumes s.left.before s.left.after text → ReadWhole command s.left.after text → Answers command text status bytes → AppendsPart s.written bytes → Ended command WriteFault s
+written_part short command s text status bytes taken whole h part =
+    writes_part command s.left.before s.written status bytes (answers_whole short command s.left.before s.left.after text status bytes taken whole h) part
+
+-- the status is that of the answer to all that there was
+some_bytes : (command : Command) (left : Option (List ℕ)) (status : Status) (bytes : List ℕ) → IfSome left (λ whole. Answers command whole status bytes) → IfSome left (IsAnswered command status)
+some_bytes command None status bytes h = tt
+some_bytes command (Some xs) status bytes h = (bytes, h)
+
+pub answered : AreShort → (command : Command) (left rest : Option (List ℕ)) (text : List ℕ) (status : Status) (bytes : List ℕ)
+    → Consumes left rest text → ReadWhole command rest text → Answers command text status bytes → IfSome left (IsAnswered command status)
+answered short command left rest text status bytes taken whole h =
+    some_bytes command left status bytes (answers_whole short command left rest text status bytes taken whole h)
 
 -- an input has one answer
 same_reason : OneReason → (text : List ℕ) (a b : refusals.Refused) → IsRefused text a → IsRefused text b → a ≡ b
@@ -201,10 +213,3 @@ some_answer each Check text = ⊎_elim
     (λ (e : (e : refusals.Refused) × Refuses Input text e × (e ≢ refused.NoMemory)). (Refused (reasons.Text e.0), (refusal_line e.0, inr (e.0, record { refuses = e.1; judged = e.2 }, refl, refl))))
     (each Input text)
 some_answer each Replay text = (answer_status (script_of text), (answer_text (script_of text), (refl, refl)))
-
--- the status is that of the answer
-pub answered : AreShort → NotRefused → OneReason → (command : Command) (left rest : Option (List ℕ)) (text : List ℕ) (status : Status) (bytes : List ℕ) (wanted : Status)
-    → Consumes left rest text → ReadWhole command rest text → Answers command text status bytes → IsSomeAnd left (IsAnswered command wanted) → status ≡ wanted
-answered short never once command None rest text status bytes wanted taken whole h want = absurd want
-answered short never once command (Some xs) rest text status bytes wanted taken whole h want =
-    (one_answer never once command xs status wanted bytes want.0 (answers_whole short command (Some xs) rest text status bytes taken whole h) want.1).0

@@ -1,7 +1,9 @@
 pub mod LineCuts
-pub mod EndpointLists
 pub mod WordCuts
 pub mod Pieces
 pub mod Posting
 pub mod Served
+pub mod Magnitudes
+pub mod SoundScripts
+pub mod Counted
 pub mod Endings

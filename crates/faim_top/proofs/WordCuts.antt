@@ -3,9 +3,9 @@ use Rattle.std.proofs.Common.{◌≡◌, ◌⊎◌, ⊎_elim, ℕ, zero, suc, �
 use Rattle.std.specs.Prelude.{Err}
 use Rattle.faim_top.specs.declared.script.Why.TheVariants.{Shape}
 use Rattle.faim_top.specs.Grammar.{host_words, account_words}
-use Rattle.faim_top.specs.Lines.{is_blank, first_word, behind, words_behind, words_of}
+use Rattle.faim_top.specs.Lines.{is_blank, first_word, after, words_after, words_of}
 
-pub words_cut : (most : ℕ) (line : List ℕ) → 0 < most → words_of most line ≡ first_word line ∷ words_behind (words_of (most - 1)) (behind is_blank line)
+pub words_cut : (most : ℕ) (line : List ℕ) → 0 < most → words_of most line ≡ first_word line ∷ words_after (words_of (most - 1)) (after is_blank line)
 unfolding words_of
 words_cut zero line some = absurd (omega (arith, some))
 words_cut (suc more) line some = let less : suc more - 1 ≡ more = omega arith in rw less refl
@@ -15,14 +15,14 @@ unfolding words_of
 words_last zero line none = refl
 words_last (suc more) line none = absurd (omega (arith, none))
 
--- the last word, and a word with others behind it
-pub one_word : (most : ℕ) (line word : List ℕ) → 0 < most → word ≡ first_word line → behind is_blank line ≡ None → word ∷ [] ≡ words_of most line
+-- the last word, and a word with others after it
+pub one_word : (most : ℕ) (line word : List ℕ) → 0 < most → word ≡ first_word line → after is_blank line ≡ None → word ∷ [] ≡ words_of most line
 one_word most line word some first none =
-    ap (λ (w : List ℕ). w ∷ []) first ∙ ap (λ (o : Option (List ℕ)). first_word line ∷ words_behind (words_of (most - 1)) o) (sym none) ∙ sym (words_cut most line some)
+    ap (λ (w : List ℕ). w ∷ []) first ∙ ap (λ (o : Option (List ℕ)). first_word line ∷ words_after (words_of (most - 1)) o) (sym none) ∙ sym (words_cut most line some)
 
-pub next_word : (most : ℕ) (line word rest : List ℕ) → 0 < most → word ≡ first_word line → behind is_blank line ≡ Some rest → word ∷ words_of (most - 1) rest ≡ words_of most line
+pub next_word : (most : ℕ) (line word rest : List ℕ) → 0 < most → word ≡ first_word line → after is_blank line ≡ Some rest → word ∷ words_of (most - 1) rest ≡ words_of most line
 next_word most line word rest some first there =
-    ap (λ (w : List ℕ). w ∷ words_of (most - 1) rest) first ∙ ap (λ (o : Option (List ℕ)). first_word line ∷ words_behind (words_of (most - 1)) o) (sym there) ∙ sym (words_cut most line some)
+    ap (λ (w : List ℕ). w ∷ words_of (most - 1) rest) first ∙ ap (λ (o : Option (List ℕ)). first_word line ∷ words_after (words_of (most - 1)) o) (sym there) ∙ sym (words_cut most line some)
 
 -- another count of words than a line of its kind has
 pub host_count : (ws : List (List ℕ)) → (length ws < 5) ⊎ (6 ≤ length ws) → host_words ws ≡ Err Shape

@@ -18,7 +18,7 @@ pub record IsRefused (text : List ℕ) (why : Refused) : Type 0 where
   pub refuses : Refuses Input text why
   pub judged : why ≢ NoMemory
 
--- a line, and the message behind it
+-- a line, and the message after it
 abbrev pub accepted_text : List ℕ → List ℕ
 accepted_text message = codes "accepted" ++ 10 ∷ message
 

@@ -1,6 +1,7 @@
 -- What a command answers to an input, and what stands at the end of a run.
 use Rattle.std.specs.Prelude.{◌≡◌, ◌⊎◌, ℕ, ◌≤◌, List, length, take, Option, Result, Ok, Err, IfSome}
-use Rattle.std.specs.Io.KnownBytes.{Appends, Consumes, Keeps, IsAtEnd}
+use Rattle.std.specs.Io.KnownBytes.{Appends, Keeps, IsAtEnd}
+use Rattle.faim_base.specs.Limits.{longest_message}
 use Rattle.faim_base.specs.declared.judgement.Refused as refusals
 use Rattle.faim_top.specs.declared.command.Command.{Command}
 use Rattle.faim_top.specs.declared.command.Command.TheVariants.{Check, Replay}
@@ -13,6 +14,7 @@ use Rattle.faim_top.specs.Checks.{IsInput, IsRefused, accepted_text, refusal_lin
 use Rattle.faim_top.specs.Grammar.{script_of, size_limit}
 use Rattle.faim_top.specs.Report.{fault_line}
 use Rattle.faim_top.specs.Replay.{report_of}
+use Rattle.faim_top.specs.Seen.{Seen}
 
 -- what is to be written of a script's text: its report, or the line of its first fault
 abbrev pub answer_text : Result Script ScriptFault → List ℕ
@@ -24,7 +26,7 @@ abbrev pub answer_status : Result Script ScriptFault → Status
 answer_status (Ok s) = Done
 answer_status (Err f) = Refused (reasons.Script f)
 
--- the input is a message, and it is written behind a line; or it is refused, and the line that says why is written
+-- the input is a message, and it is written after a line; or it is refused, and the line that says why is written
 abbrev pub Checked : List ℕ → Status → List ℕ → Type 0
 Checked text status bytes =
     (IsInput text × (status ≡ Done) × (bytes ≡ accepted_text text))
@@ -35,45 +37,44 @@ abbrev pub Answers : Command → List ℕ → Status → List ℕ → Type 0
 Answers Check text status bytes = Checked text status bytes
 Answers Replay text status bytes = (status ≡ answer_status (script_of text)) × (bytes ≡ answer_text (script_of text))
 
+-- the command's answer to an input has this status
+abbrev pub IsAnswered : Command → Status → List ℕ → Type 0
+IsAnswered command status text = (bytes : List ℕ) × Answers command text status bytes
+
 -- how many bytes an input that a command takes may have: those of the longest message, and a script's limit
 abbrev pub limit_of : Command → ℕ
-limit_of Check = 4_234
+limit_of Check = longest_message
 limit_of Replay = size_limit
 
--- known bytes grow by a front part of a text
-pub record AppendsPart (old new : Option (List ℕ)) (text : List ℕ) : Type 0 where
-  pub count : ℕ
-  pub within : count ≤ length text
-  pub part : Appends old new (take count text)
-
--- known bytes lose so many at most at their front
-pub record LosesAtMost (most : ℕ) (left rest : Option (List ℕ)) : Type 0 where
-  pub piece : List ℕ
-  pub taken : Consumes left rest piece
-  pub within : length piece ≤ most
-
--- the command's answer is written, and it has this status
-pub record Writes (command : Command) (text : List ℕ) (status : Status) (old new : Option (List ℕ)) : Type 0 where
+-- the bytes of a sink, where they are known, grow by the command's answer, and it has this status
+pub record Writes (command : Command) (text : List ℕ) (status : Status) (written : Seen (Option (List ℕ))) : Type 0 where
   pub bytes : List ℕ
   pub answers : Answers command text status bytes
-  pub written : Appends old new bytes
+  pub grows : Appends written.before written.after bytes
 
--- a front part of the command's answer is written
-pub record WritesPart (command : Command) (text : List ℕ) (old new : Option (List ℕ)) : Type 0 where
+-- they grow by a front part of some bytes
+pub record AppendsPart (written : Seen (Option (List ℕ))) (bytes : List ℕ) : Type 0 where
+  pub count : ℕ
+  pub within : count ≤ length bytes
+  pub grows : Appends written.before written.after (take count bytes)
+
+-- they grow by a front part of the command's answer
+pub record WritesPart (command : Command) (text : List ℕ) (written : Seen (Option (List ℕ))) : Type 0 where
   pub status : Status
   pub bytes : List ℕ
   pub answers : Answers command text status bytes
-  pub part : AppendsPart old new bytes
+  pub part : AppendsPart written bytes
 
--- what each status says of the bytes that the source had and has left, and of those that the sink had and has
-abbrev pub Ended : Command → Status → Option (List ℕ) → Option (List ℕ) → Option (List ℕ) → Option (List ℕ) → Type 0
-Ended command Done left rest old new = IfSome left (λ text. Writes command text Done old new) × IsAtEnd rest
-Ended command (Refused why) left rest old new = IfSome left (λ text. Writes command text (Refused why) old new)
-Ended command WriteFault left rest old new = IfSome left (λ text. WritesPart command text old new)
-Ended command Usage left rest old new = ⊥
-Ended command NoMemory left rest old new = Keeps old new
-Ended command ReadFault left rest old new = Keeps old new
+-- the bytes that a source has left and those that a sink has taken, where they are known
+pub record Streams : Type 0 where
+  pub left : Seen (Option (List ℕ))
+  pub written : Seen (Option (List ℕ))
 
--- the command's answer to the input has this status
-abbrev pub IsAnswered : Command → Status → List ℕ → Type 0
-IsAnswered command status text = (bytes : List ℕ) × Answers command text status bytes
+-- what each status of a command says of what was read and written
+abbrev pub Ended : Command → Status → Streams → Type 0
+Ended command Done s = IfSome s.left.before (λ text. Writes command text Done s.written) × IsAtEnd s.left.after
+Ended command (Refused why) s = IfSome s.left.before (λ text. Writes command text (Refused why) s.written)
+Ended command WriteFault s = IfSome s.left.before (λ text. WritesPart command text s.written)
+Ended command Usage s = ⊥
+Ended command NoMemory s = Keeps s.written.before s.written.after
+Ended command ReadFault s = Keeps s.written.before s.written.after

@@ -32,7 +32,7 @@ is_plain_number (d ∷ e ∷ rest) = not (d == 48) && (list_all is_digit (d ∷ 
 abbrev pub magnitude_word : List ℕ → Option ℕ
 magnitude_word w = if is_plain_number w then Some (number_of w) else None
 
--- a magnitude that isn't 0 behind a minus
+-- a magnitude that isn't 0 after a minus
 abbrev pub below_zero : Option ℕ → Option ℤ
 below_zero None = None
 below_zero (Some n) = if n == 0 then None else Some (neg_ℤ (pos n))

@@ -1,9 +1,10 @@
 -- Which texts are scripts, and the first fault of any other (docs/FORMATS.md, "Scripts").
-use Rattle.std.specs.Prelude.{ℕ, ◌+◌, ◌==◌, ◌&&◌, ◌||◌, not, nat_le, Bool, List, [], ◌∷◌, ◌++◌, length, codes, bytes_eq, is_some, Result, Ok, Err, if◌then◌else◌}
-use Rattle.faim_base.specs.Ids.{◌>>=◌, or_fault}
+use Rattle.std.specs.Prelude.{ℕ, ◌+◌, ◌==◌, ◌&&◌, ◌||◌, not, nat_le, Bool, List, [], ◌∷◌, ◌++◌, length, codes, bytes_eq, is_some, ok_or, Result, Ok, Err, if◌then◌else◌}
+use Rattle.faim_base.specs.Ids.{◌>>=◌}
 use Rattle.host_ledger.specs.declared.config.Account.{Account}
 use Rattle.host_ledger.specs.declared.config.Config.{Config}
-use Rattle.faim_model.specs.Accounts.{account_in, has_endpoint, endpoints_of}
+use Rattle.host_ledger.specs.Accounts.{account_in, has_endpoint, endpoints_of}
+use Rattle.host_ledger.specs.Soundness.{account_limit, endpoint_limit, operator}
 use Rattle.faim_top.specs.declared.script.Script.{Script}
 use Rattle.faim_top.specs.declared.script.Event.{Event}
 use Rattle.faim_top.specs.declared.script.Act.TheVariants.{Submit, Retrieve}
@@ -21,10 +22,6 @@ size_limit = 67_108_864
 abbrev pub text_limit : ℕ
 text_limit = 8_192
 
--- the operator's endpoint, which has no accounts
-abbrev pub operator : List ℕ
-operator = codes "OPERATOR"
-
 -- a line's reason becomes a fault at its number
 abbrev pub at_line : {A : Type 0} → ℕ → Result A Why → Result A ScriptFault
 at_line n (Ok x) = Ok x
@@ -32,12 +29,12 @@ at_line n (Err why) = Err (record { line = n; why = why })
 
 -- the configuration that a `host` line begins, with no accounts yet
 abbrev pub host_values : List ℕ → List ℕ → List ℕ → List ℕ → Result Config Why
-host_values env date customer bank =
-    or_fault (env_word env) Value >>= λ e.
-    or_fault (date_word date) Value >>= λ d.
-    or_fault (cutoff_word customer) Value >>= λ c.
-    or_fault (cutoff_word bank) Value >>= λ b.
-    Ok (record { env = e; date = d; customer = c; bank = b; accounts = [] })
+host_values env date customer bank = do
+  e ← ok_or (env_word env) Value
+  d ← ok_or (date_word date) Value
+  c ← ok_or (cutoff_word customer) Value
+  b ← ok_or (cutoff_word bank) Value
+  Ok (record { env = e; date = d; customer = c; bank = b; accounts = [] })
 
 abbrev pub host_words : List (List ℕ) → Result Config Why
 host_words (name ∷ env ∷ date ∷ customer ∷ bank ∷ []) = if bytes_eq name (codes "host") then host_values env date customer bank else Err Shape
@@ -47,12 +44,12 @@ abbrev pub host_line : List ℕ → Result Config Why
 host_line line = host_words (words_of 5 line)
 
 abbrev pub account_values : List ℕ → List ℕ → List ℕ → List ℕ → Result Account Why
-account_values aba endpoint opening floor =
-    or_fault (aba_word aba) Value >>= λ a.
-    or_fault (endpoint_word endpoint) Value >>= λ e.
-    or_fault (cents_word opening) Value >>= λ o.
-    or_fault (cents_word floor) Value >>= λ f.
-    Ok (record { aba = a; endpoint = e; opening = o; floor = f })
+account_values aba endpoint opening floor = do
+  a ← ok_or (aba_word aba) Value
+  e ← ok_or (endpoint_word endpoint) Value
+  o ← ok_or (cents_word opening) Value
+  f ← ok_or (cents_word floor) Value
+  Ok (record { aba = a; endpoint = e; opening = o; floor = f })
 
 abbrev pub account_words : List (List ℕ) → Result Account Why
 account_words (name ∷ aba ∷ endpoint ∷ opening ∷ floor ∷ []) = if bytes_eq name (codes "account") then account_values aba endpoint opening floor else Err Shape
@@ -60,9 +57,9 @@ account_words words = Err Shape
 
 -- one account more than there may be, or one endpoint more
 abbrev pub is_over_limit : List Account → Account → Bool
-is_over_limit before a = nat_le 1024 (length before) || (not (has_endpoint before a.endpoint) && nat_le 64 (length (endpoints_of before)))
+is_over_limit before a = nat_le account_limit (length before) || (not (has_endpoint before a.endpoint) && nat_le endpoint_limit (length (endpoints_of before)))
 
--- an account may stand behind those before it
+-- an account may stand after those before it
 abbrev pub account_beside : List Account → Account → Result Account Why
 account_beside before a =
     if is_some (account_in before a.aba) then Err Twice
@@ -71,27 +68,29 @@ account_beside before a =
     else Ok a
 
 abbrev pub account_line : List Account → List ℕ → Result Account Why
-account_line before line = account_words (words_of 5 line) >>= λ a. account_beside before a
+account_line before line = do
+  a ← account_words (words_of 5 line)
+  account_beside before a
 
--- the line `begin`, behind at least one account
+-- the line `begin`, after at least one account
 abbrev pub is_begin : List Account → List ℕ → Bool
 is_begin before line = not (length before == 0) && bytes_eq line (codes "begin")
 
 abbrev pub submit_values : List ℕ → List ℕ → Result Event Why
-submit_values endpoint text =
-    or_fault (endpoint_word endpoint) Value >>= λ e.
-    if nat_le (length text) text_limit then Ok (record { act = Submit e text }) else Err Value
+submit_values endpoint text = do
+  e ← ok_or (endpoint_word endpoint) Value
+  if nat_le (length text) text_limit then Ok (record { act = Submit e text }) else Err Value
 
 abbrev pub submit_words : List (List ℕ) → Result Event Why
 submit_words (name ∷ endpoint ∷ text ∷ []) = submit_values endpoint text
 submit_words words = Err Shape
 
 abbrev pub retrieve_values : List ℕ → List ℕ → List ℕ → Result Event Why
-retrieve_values endpoint date seq =
-    or_fault (endpoint_word endpoint) Value >>= λ e.
-    or_fault (date_word date) Value >>= λ d.
-    or_fault (seq_word seq) Value >>= λ n.
-    Ok (record { act = Retrieve e (record { date = d; seq = n }) })
+retrieve_values endpoint date seq = do
+  e ← ok_or (endpoint_word endpoint) Value
+  d ← ok_or (date_word date) Value
+  n ← ok_or (seq_word seq) Value
+  Ok (record { act = Retrieve e (record { date = d; seq = n }) })
 
 abbrev pub retrieve_words : List (List ℕ) → Result Event Why
 retrieve_words (name ∷ endpoint ∷ date ∷ seq ∷ []) = retrieve_values endpoint date seq
@@ -107,25 +106,33 @@ event_named name line =
 abbrev pub event_line : List ℕ → Result Event Why
 event_line line = event_named (first_word line) line
 
--- the events behind those before them, of which the first stands on line n
+-- the events after those before them, of which the first stands on line n
 abbrev pub events_from : List Event → ℕ → List (List ℕ) → Result (List Event) ScriptFault
 events_from before n [] = Ok before
-events_from before n (line ∷ lines) = at_line n (event_line line) >>= λ ev. events_from (before ++ ev ∷ []) (n + 1) lines
+events_from before n (line ∷ lines) = do
+  event ← at_line n (event_line line)
+  events_from (before ++ event ∷ []) (n + 1) lines
 
 abbrev pub script_from : Config → ℕ → List (List ℕ) → Result Script ScriptFault
-script_from c n lines = events_from [] n lines >>= λ events. Ok (record { config = c; events = events })
+script_from c n lines = do
+  events ← events_from [] n lines
+  Ok (record { config = c; events = events })
 
--- the accounts behind those before them up to `begin`, and the events behind it
+-- the accounts after those before them up to `begin`, and the events after it
 abbrev pub accounts_from : Config → List Account → ℕ → List (List ℕ) → Result Script ScriptFault
 accounts_from c before n [] = Err (record { line = n; why = Ended })
 accounts_from c before n (line ∷ lines) =
     if is_begin before line then script_from (record c { accounts = before }) (n + 1) lines
-    else at_line n (account_line before line) >>= λ a. accounts_from c (before ++ a ∷ []) (n + 1) lines
+    else do
+      a ← at_line n (account_line before line)
+      accounts_from c (before ++ a ∷ []) (n + 1) lines
 
 -- one `host` line, accounts, `begin`, events
 abbrev pub script_in : List (List ℕ) → Result Script ScriptFault
 script_in [] = Err (record { line = 1; why = Ended })
-script_in (line ∷ lines) = at_line 1 (host_line line) >>= λ c. accounts_from c [] 2 lines
+script_in (line ∷ lines) = do
+  c ← at_line 1 (host_line line)
+  accounts_from c [] 2 lines
 
 -- the script that a text is, or its first fault
 abbrev pub script_of : List ℕ → Result Script ScriptFault

@@ -7,6 +7,7 @@ pub mod Replay
 pub mod Reading
 pub mod Posting
 pub mod Checks
+pub mod Seen
 pub mod Ends
 pub mod Promises
 pub mod ExitCodes

@@ -17,23 +17,23 @@ abbrev pub lines_of : List ℕ → List (List ℕ)
 lines_of [] = []
 lines_of (b ∷ rest) = if is_line_end b then [] ∷ lines_of rest else onto_first b (lines_of rest)
 
--- what stands before the first byte that passes a test, and what stands behind it, if there is one
+-- what stands before the first byte that passes a test, and what stands after it, if there is one
 abbrev pub until : (ℕ → Bool) → List ℕ → List ℕ
 until p [] = []
 until p (b ∷ rest) = if p b then [] else b ∷ until p rest
 
-abbrev pub behind : (ℕ → Bool) → List ℕ → Option (List ℕ)
-behind p [] = None
-behind p (b ∷ rest) = if p b then Some rest else behind p rest
+abbrev pub after : (ℕ → Bool) → List ℕ → Option (List ℕ)
+after p [] = None
+after p (b ∷ rest) = if p b then Some rest else after p rest
 
 abbrev pub first_word : List ℕ → List ℕ
 first_word line = until is_blank line
 
-abbrev pub words_behind : (List ℕ → List (List ℕ)) → Option (List ℕ) → List (List ℕ)
-words_behind words None = []
-words_behind words (Some rest) = words rest
+abbrev pub words_after : (List ℕ → List (List ℕ)) → Option (List ℕ) → List (List ℕ)
+words_after words None = []
+words_after words (Some rest) = words rest
 
--- the words of a line, parted by single blanks; behind so many words the next one is all that is left
+-- the words of a line, parted by single blanks; after so many words the next one is all that is left
 unfoldable pub words_of : ℕ → List ℕ → List (List ℕ)
 words_of zero line = line ∷ []
-words_of (suc more) line = first_word line ∷ words_behind (words_of more) (behind is_blank line)
+words_of (suc more) line = first_word line ∷ words_after (words_of more) (after is_blank line)

@@ -7,4 +7,4 @@ use Rattle.faim_model.specs.Verdicts.{answer_of, judged}
 use Rattle.faim_model.specs.Turns.{HostTurn, answered}
 
 abbrev pub posted_turn : Config → List Entry → List ℕ → ℕ → List ℕ → ℕ → Head → HostTurn
-posted_turn c es line t body mark h = answered es t h body mark (answer_of (judged c es line t h body None))
+posted_turn c es endpoint t body mark h = answered es t h body mark (answer_of (judged c es endpoint t h body None))

@@ -9,11 +9,11 @@ use Rattle.faim_top.specs.declared.script.LineRefused.TheVariants as line
 
 -- the refusal of a line at its number
 abbrev pub refused_at : ℕ → LineRefused → ScriptRefused
-refused_at n (line.Reason why) = text.Fault (record { line = n; why = why })
+refused_at n (line.Fault why) = text.Fault (record { line = n; why = why })
 refused_at n line.NoMemory = text.NoMemory
 
 abbrev pub LineFails : {A : Type 0} → LineRefused → Result A Why → Type 0
-LineFails (line.Reason why) read = read ≡ Err why
+LineFails (line.Fault why) read = read ≡ Err why
 LineFails line.NoMemory read = Unit {0}
 
 abbrev pub ReadsLine : {A : Type 0} → Result A LineRefused → Result A Why → Type 0

@@ -3,7 +3,7 @@ use Rattle.std.specs.Prelude.{ℕ, ◌+◌, ◌*◌, List, [], ◌∷◌, ◌++�
 use Rattle.host_ledger.specs.declared.config.Account.{Account}
 use Rattle.host_ledger.specs.declared.config.Config.{Config}
 use Rattle.host_ledger.specs.declared.entries.Entry.{Entry}
-use Rattle.faim_model.specs.Accounts.{endpoints_of}
+use Rattle.host_ledger.specs.Accounts.{endpoints_of}
 use Rattle.faim_model.specs.Sums.{balance, cycle}
 use Rattle.faim_model.specs.Outputs.{outputs}
 use Rattle.faim_model.specs.Turns.{HostTurn, adds_to, submitted, retrieved_turn}
@@ -20,26 +20,28 @@ use Rattle.faim_top.specs.Report.{outcome_line, closing_text}
 abbrev pub opening_moment : Config → ℕ
 opening_moment c = 1440 * c.date
 
+-- the host's turn at what comes from an endpoint
 abbrev pub act_turn : Config → List Entry → Act → HostTurn
-act_turn c es (Submit line text) = submitted c es line (opening_moment c) text
-act_turn c es (Retrieve line at) = retrieved_turn c es line at
+act_turn c es (Submit endpoint text) = submitted c es endpoint (opening_moment c) text
+act_turn c es (Retrieve endpoint at) = retrieved_turn c es endpoint at
 
 -- the host's turn at an event, with the entries before it
 abbrev pub turn_of : Config → List Entry → Event → HostTurn
 turn_of c es ev = act_turn c es ev.act
 
--- the entries, the newest first, behind an event, and behind all of some events
-abbrev pub entries_behind : Config → List Entry → Event → List Entry
-entries_behind c es ev = adds_to (turn_of c es ev).adds es
+-- the entries, the newest first, after one event more
+abbrev pub next_entries : Config → List Entry → Event → List Entry
+next_entries c es ev = adds_to (turn_of c es ev).adds es
 
+-- the entries after all of some events
 abbrev pub entries_after : Config → List Entry → List Event → List Entry
 entries_after c es [] = es
-entries_after c es (ev ∷ events) = entries_after c (entries_behind c es ev) events
+entries_after c es (ev ∷ events) = entries_after c (next_entries c es ev) events
 
 -- the outcomes of events, in order
 abbrev pub outcomes_of : Config → List Entry → List Event → List Outcome
 outcomes_of c es [] = []
-outcomes_of c es (ev ∷ events) = Host (turn_of c es ev).outcome ∷ outcomes_of c (entries_behind c es ev) events
+outcomes_of c es (ev ∷ events) = Host (turn_of c es ev).outcome ∷ outcomes_of c (next_entries c es ev) events
 
 -- a line for each outcome, numbered from n on
 abbrev pub outcome_lines : ℕ → List Outcome → List ℕ

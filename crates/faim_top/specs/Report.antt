@@ -17,19 +17,19 @@ use Rattle.faim_top.specs.declared.outcome.Outcome.{Outcome}
 use Rattle.faim_top.specs.declared.outcome.Outcome.TheVariants.{Host}
 use Rattle.faim_top.specs.declared.outcome.Closing.{Closing}
 
--- a refusal as its letter and three digits
-abbrev pub refusal_text : Reject → List ℕ
-refusal_text r = r.category ∷ padded 3 r.code
+-- a refusal by the service: its letter and three digits
+abbrev pub reject_text : Reject → List ℕ
+reject_text r = r.category ∷ padded 3 r.code
 
 -- a taken message's number has its own date
 abbrev pub verdict_text : Imad → Verdict → List ℕ
 verdict_text i (Taken dest seq) = codes "taken " ++ date_text i.date ++ dest ++ padded 6 seq
-verdict_text i (Refused why) = codes "refused " ++ refusal_text why
+verdict_text i (Refused why) = codes "refused " ++ reject_text why
 
 abbrev pub host_outcome_text : HostOutcome → List ℕ
 host_outcome_text (Recorded i v) = verdict_text i v
 host_outcome_text (Known i v) = codes "again " ++ verdict_text i v
-host_outcome_text (TurnedAway why) = codes "turned " ++ refusal_text why
+host_outcome_text (TurnedAway why) = codes "turned " ++ reject_text why
 host_outcome_text (Retrieved n) = codes "retrieved " ++ decimal n
 
 abbrev pub outcome_text : Outcome → List ℕ

@@ -26,7 +26,7 @@ pub(crate) fn answer_to(
     }
 }
 
-// The message behind a line, or the line that says why the text is none.
+// The message after a line, or the line that says why the text is none.
 fn check(alloc: Global, text: &[u8]) -> Result<(Vec<u8>, Status), NoMemory>
     ensures { IfOk result (λ a. Checked text.now a.1 a.0.items) }
 {

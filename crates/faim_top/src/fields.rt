@@ -1,8 +1,8 @@
 // The values of words (docs/FORMATS.md, "Scripts").
-ghost use Rattle.std.specs.Prelude.{◌≡◌, ◌≤◌, ◌≤ℤ◌, pos, neg_ℤ, length, IfSome};
+ghost use Rattle.std.specs.Prelude.{◌≡◌, ◌≤◌, IfSome};
 ghost use Rattle.faim_top.specs.Fields.{env_word, date_word, cutoff_word, endpoint_word, aba_word, is_plain_number, magnitude_word, cents_word, seq_word};
 
-use faim_base::{Aba, CycleDate, Endpoint, Seq, aba_check, are_digits, digits, is_digit};
+use faim_base::{Aba, CycleDate, Endpoint, Seq, aba_check, are_digits, array_of, digits, is_digit};
 
 // `T` for test, `P` for production.
 pub(crate) fn env_in(word: &[u8]) -> Option<u8>
@@ -18,12 +18,7 @@ pub(crate) fn env_in(word: &[u8]) -> Option<u8>
 pub(crate) fn date_in(word: &[u8]) -> Option<CycleDate>
     ensures { result ≡ date_word word.now }
 {
-    if word.len() != 8 {
-        return None;
-    }
-    let mut text = [0; 8];
-    text.copy_from_slice(word);
-    CycleDate::read(&text)
+    CycleDate::read(&array_of(word)?)
 }
 
 // A cutoff in minutes of the day: the day's end.
@@ -39,24 +34,14 @@ pub(crate) fn cutoff_in(word: &[u8]) -> Option<u16>
 pub(crate) fn endpoint_in(word: &[u8]) -> Option<Endpoint>
     ensures { result ≡ endpoint_word word.now }
 {
-    if word.len() != 8 {
-        return None;
-    }
-    let mut text = [0; 8];
-    text.copy_from_slice(word);
-    Endpoint::read(&text)
+    Endpoint::read(&array_of(word)?)
 }
 
 // A bank's number whose check digit holds.
 pub(crate) fn aba_in(word: &[u8]) -> Option<Aba>
     ensures { result ≡ aba_word word.now }
 {
-    if word.len() != 9 {
-        return None;
-    }
-    let mut text = [0; 9];
-    text.copy_from_slice(word);
-    let aba = Aba::read(&text)?;
+    let aba = Aba::read(&array_of(word)?)?;
     if aba_check(&aba) { Some(aba) } else { None }
 }
 

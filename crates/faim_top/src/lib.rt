@@ -19,8 +19,8 @@ mod tests;
 mod top;
 mod turns;
 
-pub use command::Command;
-pub use laws::{inputs_have_one_answer, promises_kept};
+pub use command::{Command, words_after_name};
+pub use laws::{inputs_have_one_answer, promises_kept, scripts_are_sound};
 pub use outcome::{Balances, Closing, Counts, Outcome};
 pub use printing::{print_closing, print_outcome};
 pub use reader::read_script;

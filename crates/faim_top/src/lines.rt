@@ -1,15 +1,15 @@
 // The lines of a text, and the words of a line.
 ghost use Rattle.std.specs.Prelude.{◌≡◌, ◌==◌, ◌∷◌, ◌<◌, length, map, IfOk};
 ghost use Rattle.std.specs.Option.{option_copied};
-ghost use Rattle.faim_top.specs.Lines.{is_blank, until, behind, lines_of, first_word, words_of};
+ghost use Rattle.faim_top.specs.Lines.{is_blank, until, after, lines_of, first_word, words_of};
 
 use faim_base::NoMemory;
 use std::alloc::Global;
 
-// What stands before the first such byte, and what stands behind it, if there is one.
+// What stands before the first such byte, and what stands after it, if there is one.
 fn split_at_byte(text: &[u8], byte: u8) -> (&[u8], Option<&[u8]>)
     ensures before { result.0.now ≡ until (λ b. b == byte) text.now }
-    ensures behind { option_copied result.1 ≡ behind (λ b. b == byte) text.now }
+    ensures after { option_copied result.1 ≡ after (λ b. b == byte) text.now }
 {
     for (i, b) in text.iter().enumerate() {
         if *b == byte {
@@ -19,8 +19,8 @@ fn split_at_byte(text: &[u8], byte: u8) -> (&[u8], Option<&[u8]>)
     (text, None)
 }
 
-// The first line of a text that isn't empty, and what stands behind its end.
-#[tactic(auto, using(crate::proofs::LineCuts::cut_line, crate::proofs::LineCuts::last_line, crate::proofs::LineCuts::shorter_behind))]
+// The first line of a text that isn't empty, and what stands after its end.
+#[tactic(auto, using(crate::proofs::LineCuts::cut_line, crate::proofs::LineCuts::last_line, crate::proofs::LineCuts::shorter_after))]
 pub(crate) fn split_line(text: &[u8]) -> (&[u8], &[u8])
     requires { 0 < length text.now }
     ensures lines { lines_of text.now ≡ result.0.now ∷ lines_of result.1.now }
@@ -32,15 +32,15 @@ pub(crate) fn split_line(text: &[u8]) -> (&[u8], &[u8])
     }
 }
 
-// The first word of a line, and what stands behind its blank, if there is one.
+// The first word of a line, and what stands after its blank, if there is one.
 pub(crate) fn split_word(line: &[u8]) -> (&[u8], Option<&[u8]>)
     ensures word { result.0.now ≡ first_word line.now }
-    ensures rest { option_copied result.1 ≡ behind is_blank line.now }
+    ensures rest { option_copied result.1 ≡ after is_blank line.now }
 {
     split_at_byte(line, b' ')
 }
 
-// The words of a line; behind so many words the next one is all that is left.
+// The words of a line; after so many words the next one is all that is left.
 pub(crate) fn words<'a>(
     alloc: Global,
     line: &'a [u8],
@@ -51,9 +51,9 @@ pub(crate) fn words<'a>(
     let mut words = Vec::new(alloc);
     let mut rest = line;
     for _ in 0..most {
-        let (word, behind) = split_word(rest);
+        let (word, after) = split_word(rest);
         words.push(word)?;
-        match behind {
+        match after {
             Some(next) => rest = next,
             None => return Ok(words),
         }

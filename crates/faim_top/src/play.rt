@@ -1,21 +1,21 @@
 // Plays a script against a host in memory (docs/FORMATS.md, "The report").
-ghost use Rattle.std.specs.Prelude.{◌≡◌, ◌++◌, [], IfOk, OnOk};
-ghost use Rattle.faim_model.specs.Accounts.{endpoints_of};
+ghost use Rattle.std.specs.Prelude.{◌≡◌, ◌++◌, IfOk, OnOk};
+ghost use Rattle.host_ledger.specs.Soundness.{IsConfig};
 ghost use Rattle.faim_model.specs.Turns.{adds_to, submitted};
 ghost use Rattle.faim_top.specs.Replay.{act_turn, entries_after, outcomes_of, outcome_lines, closing_of, balances_of, output_counts, opening_moment, report_of};
 
-use crate::accounts::add_endpoint;
 use crate::turns::{retrieve, submit};
 use crate::{Act, Balances, Closing, Counts, Event, Outcome, Script, print_closing, print_outcome};
-use faim_base::{Endpoint, Endpoints, Moment, NoMemory};
+use faim_base::{Endpoint, Moment, NoMemory};
 use faim_message::plain;
 use faim_model::HostOutcome;
 use host_core::HostState;
-use host_ledger::{Account, Config};
+use host_ledger::{Account, Config, endpoints_of};
 use std::alloc::Global;
 
 // The report of a script.
 pub(crate) fn report(alloc: Global, script: Script) -> Result<Vec<u8>, NoMemory>
+    requires { IsConfig script.config }
     ensures { IfOk result (λ v. v.items ≡ report_of script) }
 {
     let Script { config, events } = script;
@@ -63,17 +63,17 @@ fn act(alloc: Global, state: &mut HostState, act: &Act) -> Result<HostOutcome, N
 fn submit_now(
     alloc: Global,
     state: &mut HostState,
-    line: Endpoint,
+    endpoint: Endpoint,
     text: &[u8],
 ) -> Result<HostOutcome, NoMemory>
     ensures config { state.new.config ≡ state.old.config }
-    ensures outcome { IfOk result (λ x. x ≡ (submitted state.old.config state.old.entries line (opening_moment state.old.config) text.now).outcome) }
-    ensures entries { OnOk result (state.new.entries ≡ adds_to (submitted state.old.config state.old.entries line (opening_moment state.old.config) text.now).adds state.old.entries) }
+    ensures outcome { IfOk result (λ x. x ≡ (submitted state.old.config state.old.entries endpoint (opening_moment state.old.config) text.now).outcome) }
+    ensures entries { OnOk result (state.new.entries ≡ adds_to (submitted state.old.config state.old.entries endpoint (opening_moment state.old.config) text.now).adds state.old.entries) }
 {
     let config = state.config();
     let moment = first_minute(config);
     let message = plain(text, config.env);
-    submit(alloc, state, line, moment, text, message)
+    submit(alloc, state, endpoint, moment, text, message)
 }
 
 // The first minute of the opening date.
@@ -89,7 +89,7 @@ fn closing(alloc: Global, state: &HostState) -> Result<Closing, NoMemory>
 {
     let accounts = state.config().accounts.as_slice();
     let balances = balances(alloc, state, accounts)?;
-    let endpoints = endpoints(alloc, accounts)?;
+    let endpoints = endpoints_of(alloc, accounts)?;
     let outputs = output_counts(alloc, state, endpoints.as_slice())?;
     Ok(Closing {
         cycle: state.cycle(),
@@ -108,17 +108,6 @@ fn balances(alloc: Global, state: &HostState, accounts: &[Account]) -> Result<Ba
         balances.push((account.aba, state.balance(&account.aba).unwrap()))?;
     }
     Ok(balances)
-}
-
-// The endpoints, each once, in the order of their first accounts.
-fn endpoints(alloc: Global, accounts: &[Account]) -> Result<Endpoints, NoMemory>
-    ensures { IfOk result (λ e. e ≡ endpoints_of accounts.now) }
-{
-    let mut endpoints = Endpoints::new(alloc);
-    for (place, account) in accounts.iter().enumerate() {
-        add_endpoint(&mut endpoints, &accounts[..place], account)?;
-    }
-    Ok(endpoints)
 }
 
 fn output_counts(

@@ -1,9 +1,9 @@
 // What the report prints (docs/FORMATS.md, "The report").
-ghost use Rattle.std.specs.Prelude.{◌≡◌, ◌≢◌, ◌++◌, ◌∷◌, [], OnOk, OnErr};
-ghost use Rattle.std.specs.Fmt.{decimal, signed_decimal};
+ghost use Rattle.std.specs.Prelude.{◌≡◌, ◌≢◌, ◌++◌, OnOk, OnErr};
+ghost use Rattle.std.specs.Fmt.{signed_decimal};
 ghost use Rattle.faim_base.specs.Calendar.{date_text};
 ghost use Rattle.faim_base.specs.Digits.{padded};
-ghost use Rattle.faim_top.specs.Report.{refusal_text, verdict_text, host_outcome_text, outcome_line, balance_line, count_line, closing_text, balance_lines, count_lines, why_text, fault_line};
+ghost use Rattle.faim_top.specs.Report.{reject_text, verdict_text, host_outcome_text, outcome_line, balance_line, closing_text, balance_lines, count_lines, why_text, fault_line};
 ghost use Rattle.faim_top.specs.Checks.{refusal_line};
 
 use crate::outcome::{Closing, Outcome};
@@ -48,7 +48,7 @@ pub(crate) fn print_fault(
     ensures { OnOk result (out.new.items ≡ out.old.items ++ fault_line fault.now) }
 {
     out.extend_from_slice(b"line ")?;
-    write_number(alloc, fault.line, out)?;
+    write_number(alloc, i128::from(fault.line), out)?;
     out.push(b' ')?;
     write_why(fault.why, out)?;
     out.push(b'\n')?;
@@ -63,12 +63,12 @@ pub(crate) fn print_refused(alloc: Global, why: &Refused, out: &mut Vec<u8>) -> 
     match why {
         Refused::Byte(place) => {
             out.extend_from_slice(b"byte ")?;
-            write_number(alloc, *place as u64, out)?;
+            write_number(alloc, *place as i128, out)?;
         }
         Refused::Cut => out.extend_from_slice(b"cut")?,
         Refused::Missing(number) => {
             out.extend_from_slice(b"missing ")?;
-            write_number(alloc, u64::from(number.get()), out)?;
+            write_number(alloc, i128::from(number.get()), out)?;
         }
         Refused::NoMemory => return Err(NoMemory),
     }
@@ -100,7 +100,7 @@ fn write_outcome(
     ensures { OnOk result (out.new.items ≡ out.old.items ++ outcome_line number outcome.now) }
 {
     let Outcome::Host(host) = outcome;
-    write_number(alloc, number, out)?;
+    write_number(alloc, i128::from(number), out)?;
     out.push(b' ')?;
     write_host_outcome(alloc, host, out)?;
     out.push(b'\n')?;
@@ -122,11 +122,11 @@ fn write_host_outcome(
         }
         HostOutcome::TurnedAway(why) => {
             out.extend_from_slice(b"turned ")?;
-            write_refusal(why, out)
+            write_reject(why, out)
         }
         HostOutcome::Retrieved(count) => {
             out.extend_from_slice(b"retrieved ")?;
-            write_number(alloc, u64::from(*count), out)
+            write_number(alloc, i128::from(*count), out)
         }
     }
 }
@@ -143,14 +143,14 @@ fn write_verdict(imad: &Imad, verdict: &Verdict, out: &mut Vec<u8>) -> Result<()
         }
         Verdict::Refused(why) => {
             out.extend_from_slice(b"refused ")?;
-            write_refusal(why, out)
+            write_reject(why, out)
         }
     }
 }
 
 // A refusal as its letter and the last three digits of its number, which has no more.
-fn write_refusal(why: &Reject, out: &mut Vec<u8>) -> Result<(), NoMemory>
-    ensures { OnOk result (out.new.items ≡ out.old.items ++ refusal_text why.now) }
+fn write_reject(why: &Reject, out: &mut Vec<u8>) -> Result<(), NoMemory>
+    ensures { OnOk result (out.new.items ≡ out.old.items ++ reject_text why.now) }
 {
     let mut text = [0; 3];
     padded(u64::from(why.code % 1_000), &mut text);
@@ -184,18 +184,10 @@ fn write_seq(seq: Seq, out: &mut Vec<u8>) -> Result<(), NoMemory>
     Ok(())
 }
 
-fn write_number(alloc: Global, number: u64, out: &mut Vec<u8>) -> Result<(), NoMemory>
-    ensures { OnOk result (out.new.items ≡ out.old.items ++ decimal number) }
+fn write_number(alloc: Global, number: i128, out: &mut Vec<u8>) -> Result<(), NoMemory>
+    ensures { OnOk result (out.new.items ≡ out.old.items ++ signed_decimal number) }
 {
     let text = number.to_string(alloc)?;
-    out.extend_from_slice(text.as_bytes())?;
-    Ok(())
-}
-
-fn write_cents(alloc: Global, cents: i128, out: &mut Vec<u8>) -> Result<(), NoMemory>
-    ensures { OnOk result (out.new.items ≡ out.old.items ++ signed_decimal cents) }
-{
-    let text = cents.to_string(alloc)?;
     out.extend_from_slice(text.as_bytes())?;
     Ok(())
 }
@@ -231,7 +223,7 @@ fn write_balance(alloc: Global, aba: &Aba, cents: i128, out: &mut Vec<u8>) -> Re
     out.extend_from_slice(b"balance ")?;
     out.extend_from_slice(&aba.bytes())?;
     out.push(b' ')?;
-    write_cents(alloc, cents, out)?;
+    write_number(alloc, cents, out)?;
     out.push(b'\n')?;
     Ok(())
 }
@@ -247,7 +239,7 @@ fn write_counts(
         out.extend_from_slice(b"outputs ")?;
         write_endpoint(endpoint, out)?;
         out.push(b' ')?;
-        write_number(alloc, *count, out)?;
+        write_number(alloc, i128::from(*count), out)?;
         out.push(b'\n')?;
     }
     Ok(())

@@ -1,18 +1,19 @@
 // Reads scripts, line by line (docs/FORMATS.md, "Scripts").
-ghost use Rattle.std.specs.Prelude.{◌≡◌, ◌+◌, [], ◌≤◌, length, map, bytes_eq, Ok, Err, if◌then◌else◌};
+ghost use Rattle.std.specs.Prelude.{◌≡◌, ◌+◌, [], ◌≤◌, length, map, bytes_eq, Ok, Err, IfOk, if◌then◌else◌};
+ghost use Rattle.host_ledger.specs.Soundness.{IsConfig};
 ghost use Rattle.faim_top.specs.declared.script.Why.TheVariants.{Shape};
 ghost use Rattle.faim_top.specs.Lines.{lines_of, words_of};
 ghost use Rattle.faim_top.specs.Grammar.{host_values, host_line, account_values, account_words, account_line, submit_values, retrieve_values, submit_words, retrieve_words, event_named, event_line, script_from, accounts_from, script_of, size_limit, is_begin};
 ghost use Rattle.faim_top.specs.Reading.{ReadsLine, ReadsText};
-ghost use Rattle.faim_model.specs.Accounts.{endpoints_of};
+ghost use Rattle.host_ledger.specs.Accounts.{endpoints_of};
 
-use crate::accounts::{add_endpoint, stands_beside};
+use crate::accounts::stands_beside;
 use crate::fields::{aba_in, cents_in, cutoff_in, date_in, endpoint_in, env_in, seq_in};
 use crate::lines::{split_line, split_word, words};
 use crate::script::LineRefused;
-use crate::{Act, Event, Events, Script, ScriptFault, ScriptRefused, Why};
+use crate::{Act, Event, Events, Script, ScriptRefused, Why, scripts_are_sound};
 use faim_base::{Bytes, Endpoint, Endpoints, OutPos};
-use host_ledger::{Account, Accounts, Config};
+use host_ledger::{Account, Accounts, Config, add_endpoint};
 use std::alloc::Global;
 
 /// What a script may have at most, in bytes.
@@ -21,16 +22,25 @@ pub(crate) const SIZE_LIMIT: usize = 67_108_864;
 // What a submitted text may have at most, in bytes.
 const TEXT_LIMIT: usize = 8_192;
 
-/// The script that a text is. `Fault` exactly where the text is none, with the first line that isn't one of a script and
-/// the first reason that it has.
+/// The script that a text is, whose configuration is sound (docs/FORMATS.md, "Scripts"). `Fault` exactly where the text
+/// is none, with the first line that isn't one of a script and the first reason that it has.
 pub fn read_script(alloc: Global, text: &[u8]) -> Result<Script, ScriptRefused>
+    ensures script { ReadsText result (script_of text.now) }
+    ensures sound { IfOk result (λ s. IsConfig s.config) }
+{
+    scripts_are_sound();
+    read_text(alloc, text)
+}
+
+// The script that a text is.
+fn read_text(alloc: Global, text: &[u8]) -> Result<Script, ScriptRefused>
     ensures { ReadsText result (script_of text.now) }
 {
     if text.len() > SIZE_LIMIT {
-        return Err(LineRefused::Reason(Why::Size).at(0));
+        return Err(LineRefused::Fault(Why::Size).at(0));
     }
     if text.is_empty() {
-        return Err(LineRefused::Reason(Why::Ended).at(1));
+        return Err(LineRefused::Fault(Why::Ended).at(1));
     }
     let (line, rest) = split_line(text);
     match host_line(alloc, line) {
@@ -39,7 +49,7 @@ pub fn read_script(alloc: Global, text: &[u8]) -> Result<Script, ScriptRefused>
     }
 }
 
-// The accounts up to `begin`, and the events behind it.
+// The accounts up to `begin`, and the events after it.
 fn read_accounts(alloc: Global, config: Config, text: &[u8]) -> Result<Script, ScriptRefused>
     requires { length text.now ≤ size_limit }
     ensures { ReadsText result (accounts_from config [] 2 (lines_of text.now)) }
@@ -49,9 +59,9 @@ fn read_accounts(alloc: Global, config: Config, text: &[u8]) -> Result<Script, S
     let mut number = 2;
     let mut rest = text;
     while !rest.is_empty() {
-        let (line, behind) = split_line(rest);
+        let (line, after) = split_line(rest);
         if is_begin(accounts.as_slice(), line) {
-            return read_events(alloc, Config { accounts, ..config }, number + 1, behind);
+            return read_events(alloc, Config { accounts, ..config }, number + 1, after);
         }
         match account_line(alloc, accounts.as_slice(), endpoints.as_slice(), line) {
             Ok(account) => {
@@ -61,9 +71,9 @@ fn read_accounts(alloc: Global, config: Config, text: &[u8]) -> Result<Script, S
             Err(refused) => return Err(refused.at(number)),
         }
         number += 1;
-        rest = behind;
+        rest = after;
     }
-    Err(LineRefused::Reason(Why::Ended).at(number))
+    Err(LineRefused::Fault(Why::Ended).at(number))
 }
 
 // The events on lines from this number on.
@@ -80,13 +90,13 @@ fn read_events(
     let mut number = first;
     let mut rest = text;
     while !rest.is_empty() {
-        let (line, behind) = split_line(rest);
+        let (line, after) = split_line(rest);
         match event_line(alloc, line) {
             Ok(event) => events.push(event)?,
             Err(refused) => return Err(refused.at(number)),
         }
         number += 1;
-        rest = behind;
+        rest = after;
     }
     Ok(Script { config, events })
 }
@@ -108,7 +118,7 @@ fn host_line(alloc: Global, line: &[u8]) -> Result<Config, LineRefused>
             named(name, b"host")?;
             Ok(host_values(alloc, env, date, customer, bank)?)
         }
-        _ => Err(LineRefused::Reason(Why::Shape)),
+        _ => Err(LineRefused::Fault(Why::Shape)),
     }
 }
 
@@ -134,7 +144,7 @@ fn host_values(
     })
 }
 
-// An `account` line behind these accounts.
+// An `account` line after these accounts.
 fn account_line(
     alloc: Global,
     before: &[Account],
@@ -205,7 +215,7 @@ fn event_named(alloc: Global, name: &[u8], line: &[u8]) -> Result<Event, LineRef
     if name == b"retrieve".as_slice() {
         return retrieve_line(alloc, line);
     }
-    Err(LineRefused::Reason(Why::Shape))
+    Err(LineRefused::Fault(Why::Shape))
 }
 
 fn submit_line(alloc: Global, line: &[u8]) -> Result<Event, LineRefused>
@@ -214,7 +224,7 @@ fn submit_line(alloc: Global, line: &[u8]) -> Result<Event, LineRefused>
     let words = words(alloc, line, 2)?;
     match words.as_slice() {
         [_, endpoint, text] => submit_values(alloc, endpoint, text),
-        _ => Err(LineRefused::Reason(Why::Shape)),
+        _ => Err(LineRefused::Fault(Why::Shape)),
     }
 }
 
@@ -223,7 +233,7 @@ fn submit_values(alloc: Global, endpoint: &[u8], text: &[u8]) -> Result<Event, L
 {
     let line = endpoint_in(endpoint).ok_or(Why::Value)?;
     if text.len() > TEXT_LIMIT {
-        return Err(LineRefused::Reason(Why::Value));
+        return Err(LineRefused::Fault(Why::Value));
     }
     let mut copy = Bytes::new(alloc);
     copy.extend(text)?;
@@ -238,7 +248,7 @@ fn retrieve_line(alloc: Global, line: &[u8]) -> Result<Event, LineRefused>
     let words = words(alloc, line, 4)?;
     match words.as_slice() {
         [_, endpoint, date, seq] => Ok(retrieve_values(endpoint, date, seq)?),
-        _ => Err(LineRefused::Reason(Why::Shape)),
+        _ => Err(LineRefused::Fault(Why::Shape)),
     }
 }
 

@@ -63,18 +63,18 @@ pub enum ScriptRefused {
 // Why one line was not read.
 #[derive(Clone, Copy, Debug, PartialEq, Eq)]
 pub(crate) enum LineRefused {
-    Reason(Why),
+    Fault(Why),
     NoMemory,
 }
 
 impl From<Why> for LineRefused {
     ghost use Rattle.std.specs.Prelude.{◌≡◌};
-    ghost use Rattle.faim_top.specs.declared.script.LineRefused.TheVariants.{Reason};
+    ghost use Rattle.faim_top.specs.declared.script.LineRefused.TheVariants.{Fault};
 
-    ghost from_gives = { λ why e. e ≡ Reason why };
+    ghost from_gives = { λ why e. e ≡ Fault why };
 
     fn from(why: Why) -> LineRefused {
-        LineRefused::Reason(why)
+        LineRefused::Fault(why)
     }
 }
 
@@ -109,7 +109,7 @@ impl LineRefused {
         ensures { result ≡ refused_at line self }
     {
         match self {
-            LineRefused::Reason(why) => ScriptRefused::Fault(ScriptFault { line, why }),
+            LineRefused::Fault(why) => ScriptRefused::Fault(ScriptFault { line, why }),
             LineRefused::NoMemory => ScriptRefused::NoMemory,
         }
     }

@@ -1,9 +1,11 @@
 // How a run ends.
 ghost use Rattle.std.specs.Prelude.{◌≡◌};
-ghost use Rattle.faim_top.specs.ExitCodes.{code_of};
+ghost use Rattle.std.specs.Option.{option_copied};
+ghost use Rattle.faim_top.specs.ExitCodes.{code_of, error_line_of, status_without_words};
 
 use crate::ScriptFault;
 use faim_base::Refused;
+use std::io::ErrorKind;
 
 /// Why an input was refused.
 #[derive(Clone, Copy, Debug, PartialEq, Eq)]
@@ -32,6 +34,31 @@ pub enum Status {
 }
 
 impl Status {
+    /// How a run ends whose words could not be read for this reason: `NoMemory` for want of memory. Else a word is no
+    /// text and so in no command.
+    pub fn without_words(reason: ErrorKind) -> Status
+        ensures { result ≡ status_without_words reason }
+    {
+        match reason {
+            ErrorKind::OutOfMemory => Status::NoMemory,
+            _ => Status::Usage,
+        }
+    }
+
+    /// The line on standard error, without its end; none where all is done (docs/FORMATS.md, "Exit statuses").
+    pub fn error_line(&self) -> Option<&'static str>
+        ensures { option_copied result ≡ error_line_of self.now }
+    {
+        match self {
+            Status::Done => None,
+            Status::Usage => Some("faim: usage"),
+            Status::Refused(_) => Some("faim: refused"),
+            Status::NoMemory => Some("faim: no memory"),
+            Status::ReadFault => Some("faim: read fault"),
+            Status::WriteFault => Some("faim: write fault"),
+        }
+    }
+
     /// The exit status of the program (docs/FORMATS.md, "Exit statuses").
     pub fn code(&self) -> u8
         ensures { result ≡ code_of self.now }

@@ -1,10 +1,10 @@
 // Reads an input, and writes all of an answer.
-ghost use Rattle.std.specs.Prelude.{◌≡◌, ◌⊎◌, ◌+◌, ◌<◌, ◌≤◌, ◌++◌, take, drop, length, Ok, Err, IfOk, OnOk, OnErr};
+ghost use Rattle.std.specs.Prelude.{◌≡◌, ◌⊎◌, ◌+◌, ◌<◌, ◌≤◌, ◌++◌, take, length, Ok, Err, IsErr, IfOk, OnOk, OnErr};
 ghost use Rattle.std.specs.Io.KnownBytes.{Appends, Consumes, IsAtEnd};
-ghost use Rattle.site_core.specs.Counts.{Rose};
-ghost use Rattle.faim_top.specs.Ends.{AppendsPart, LosesAtMost};
+ghost use Rattle.faim_top.specs.Ends.{AppendsPart};
+ghost use Rattle.faim_top.specs.Seen.{CountsFaults, LosesAtMost, seen};
 
-use faim_base::{Bytes, Failed, NoMemory};
+use faim_base::{Bytes, Failed, NoMemory, after};
 use site_core::{Sink, Source};
 use std::alloc::Global;
 
@@ -25,10 +25,8 @@ pub(crate) fn read_up_to<I: Source>(
     most: usize,
 ) -> Result<Bytes, ReadEnd>
     ensures all { IfOk result (λ b. Consumes (I.left input.old) (I.left input.new) b × (IsAtEnd (I.left input.new) ⊎ (length b ≡ most))) }
-    ensures few { LosesAtMost most (I.left input.old) (I.left input.new) }
-    ensures later { I.read_faults input.old ≤ I.read_faults input.new }
-    ensures failed { result ≡ Err ReadEnd.Failed → Rose (I.read_faults input.old) (I.read_faults input.new) }
-    ensures kept { (result ≡ Err ReadEnd.Failed → ⊥) → I.read_faults input.new ≡ I.read_faults input.old }
+    ensures few { LosesAtMost most (seen I.left input.old input.new) }
+    ensures faults { CountsFaults (result ≡ Err ReadEnd.Failed) (seen I.read_faults input.old input.new) }
 {
     let mut all = Bytes::new(alloc);
     let mut buf = [0; CHUNK];
@@ -48,10 +46,8 @@ fn read_piece<I: Source>(input: &mut I, buf: &mut [u8], all: &mut Bytes) -> Resu
     requires { 0 < length buf.old }
     ensures given { IfOk result (λ n. Consumes (I.left input.old) (I.left input.new) (take n buf.new) × (all.new ≡ all.old ++ take n buf.new) × (length (take n buf.new) ≡ n) × (n ≤ length buf.old)) }
     ensures end { result ≡ Ok 0 → IsAtEnd (I.left input.new) }
-    ensures few { LosesAtMost (length buf.old) (I.left input.old) (I.left input.new) }
-    ensures later { I.read_faults input.old ≤ I.read_faults input.new }
-    ensures failed { result ≡ Err ReadEnd.Failed → Rose (I.read_faults input.old) (I.read_faults input.new) }
-    ensures kept { (result ≡ Err ReadEnd.Failed → ⊥) → I.read_faults input.new ≡ I.read_faults input.old }
+    ensures few { LosesAtMost (length buf.old) (seen I.left input.old input.new) }
+    ensures faults { CountsFaults (result ≡ Err ReadEnd.Failed) (seen I.read_faults input.old input.new) }
 {
     match input.read(buf) {
         Err(_) => Err(ReadEnd::Failed),
@@ -62,21 +58,11 @@ fn read_piece<I: Source>(input: &mut I, buf: &mut [u8], all: &mut Bytes) -> Resu
     }
 }
 
-// What stands from a place on.
-fn after(piece: &[u8], at: usize) -> &[u8]
-    requires { at ≤ length piece.now }
-    ensures { result.now ≡ drop at piece.now }
-{
-    &piece[at..]
-}
-
 // Writes all of the piece, or a part of it before a write that failed.
 pub(crate) fn write_all<O: Sink>(out: &mut O, piece: &[u8]) -> Result<(), Failed>
     ensures all { OnOk result (Appends (O.written out.old) (O.written out.new) piece.now) }
-    ensures part { OnErr result (AppendsPart (O.written out.old) (O.written out.new) piece.now) }
-    ensures later { O.write_faults out.old ≤ O.write_faults out.new }
-    ensures failed { OnErr result (Rose (O.write_faults out.old) (O.write_faults out.new)) }
-    ensures kept { OnOk result (O.write_faults out.new ≡ O.write_faults out.old) }
+    ensures part { OnErr result (AppendsPart (seen O.written out.old out.new) piece.now) }
+    ensures faults { CountsFaults (IsErr result) (seen O.write_faults out.old out.new) }
 {
     let mut done = 0;
     while done < piece.len() {

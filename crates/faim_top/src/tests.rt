@@ -1,5 +1,6 @@
 mod checking;
 mod ends;
+mod keeping;
 mod playing;
 mod refusing;
 

@@ -1,4 +1,4 @@
-// What a host does with what comes from a line.
+// What a host does with what comes on an endpoint's line.
 ghost use Rattle.std.specs.Prelude.{◌≡◌, ◌==◌, take, drop, Some, None, IfOk, OnOk};
 ghost use Rattle.faim_base.specs.Refusals.{refusal};
 ghost use Rattle.host_ledger.specs.declared.entries.Entry.{Entry};
@@ -28,7 +28,7 @@ fn body_of(alloc: Global, text: &[u8]) -> Result<Bytes, NoMemory>
     Ok(body)
 }
 
-// The first so many bytes, or all, and what stands behind them.
+// The first so many bytes, or all, and what stands after them.
 #[tactic(auto, using(std::proofs::lemmas::List::take_all))]
 fn front(text: &[u8], count: usize) -> &[u8]
     ensures { result.now ≡ take count text.now }
@@ -51,19 +51,19 @@ fn back(text: &[u8], count: usize) -> &[u8]
     }
 }
 
-// A text that was read as a plain message, or as none, is submitted on a line.
+// A text that was read as a plain message, or as none, is submitted on an endpoint's line.
 pub(crate) fn submit(
     alloc: Global,
     state: &mut HostState,
-    line: Endpoint,
+    endpoint: Endpoint,
     reading: Moment,
     text: &[u8],
     message: Option<Plain>,
 ) -> Result<HostOutcome, NoMemory>
     requires { message ≡ plain_of state.old.config.env text.now }
     ensures config { state.new.config ≡ state.old.config }
-    ensures outcome { IfOk result (λ x. x ≡ (submitted state.old.config state.old.entries line reading text.now).outcome) }
-    ensures entries { OnOk result (state.new.entries ≡ adds_to (submitted state.old.config state.old.entries line reading text.now).adds state.old.entries) }
+    ensures outcome { IfOk result (λ x. x ≡ (submitted state.old.config state.old.entries endpoint reading text.now).outcome) }
+    ensures entries { OnOk result (state.new.entries ≡ adds_to (submitted state.old.config state.old.entries endpoint reading text.now).adds state.old.entries) }
 {
     turn_follows();
     let plain = match message {
@@ -77,24 +77,24 @@ pub(crate) fn submit(
     };
     let body = body_of(alloc, text)?;
     let moment = state.effective(reading);
-    post(state, line, moment, &head, body, plain.mark)
+    post(state, endpoint, moment, &head, body, plain.mark)
 }
 
 // A message with a valid identifier is judged, and recorded where it is new.
 fn post(
     state: &mut HostState,
-    line: Endpoint,
+    endpoint: Endpoint,
     moment: Moment,
     head: &Head,
     body: Bytes,
     mark: u8,
 ) -> Result<HostOutcome, NoMemory>
-    requires { (x : Entry) → (posted_turn state.old.config state.old.entries line moment body mark head.now).adds ≡ Some x → Follows state.old.config state.old.entries x }
+    requires { (x : Entry) → (posted_turn state.old.config state.old.entries endpoint moment body mark head.now).adds ≡ Some x → Follows state.old.config state.old.entries x }
     ensures config { state.new.config ≡ state.old.config }
-    ensures outcome { IfOk result (λ x. x ≡ (posted_turn state.old.config state.old.entries line moment body mark head.now).outcome) }
-    ensures entries { OnOk result (state.new.entries ≡ adds_to (posted_turn state.old.config state.old.entries line moment body mark head.now).adds state.old.entries) }
+    ensures outcome { IfOk result (λ x. x ≡ (posted_turn state.old.config state.old.entries endpoint moment body mark head.now).outcome) }
+    ensures entries { OnOk result (state.new.entries ≡ adds_to (posted_turn state.old.config state.old.entries endpoint moment body mark head.now).adds state.old.entries) }
 {
-    let decision = decision_on(state, line, moment, head, body.as_slice(), mark);
+    let decision = decision_on(state, endpoint, moment, head, body.as_slice(), mark);
     match decision {
         Decision::New(verdict) => {
             state.push(posted(head, body, mark, moment, &verdict))?;
@@ -129,13 +129,13 @@ fn recorded(head: &Head, verdict: &Verdict) -> HostOutcome
 
 fn decision_on(
     state: &HostState,
-    line: Endpoint,
+    endpoint: Endpoint,
     moment: Moment,
     head: &Head,
     body: &[u8],
     mark: u8,
 ) -> Decision
-    ensures { result ≡ judged state.now.config state.now.entries line moment head.now body.now None }
+    ensures { result ≡ judged state.now.config state.now.entries endpoint moment head.now body.now None }
 {
     let message = Judged {
         head: *head,
@@ -143,7 +143,7 @@ fn decision_on(
         resent: mark == b'P',
         edit: None,
     };
-    state.decide(line, &message, moment)
+    state.decide(endpoint, &message, moment)
 }
 
 // The verdict that the entry at a place keeps.
@@ -166,15 +166,15 @@ fn told_again(state: &HostState, head: &Head, place: usize) -> HostOutcome
     }
 }
 
-// A line asks for its outputs from a position on.
+// An endpoint asks for its outputs from a position on.
 pub(crate) fn retrieve(
     state: &HostState,
-    line: Endpoint,
+    endpoint: Endpoint,
     at: OutPos,
 ) -> Result<HostOutcome, NoMemory>
-    ensures { IfOk result (λ x. x ≡ (retrieved_turn state.now.config state.now.entries line at).outcome) }
+    ensures { IfOk result (λ x. x ≡ (retrieved_turn state.now.config state.now.entries endpoint at).outcome) }
 {
-    let places = state.retrieve(line, at)?;
+    let places = state.retrieve(endpoint, at)?;
     Ok(HostOutcome::Retrieved(places.as_slice().len() as u32))
 }
 

@@ -24,7 +24,7 @@ few_retrieved places c es e p same =
 one_way : (m n : ℕ) → (m ≤ n) ⊎ (n ≤ m)
 one_way m n = grind arith
 
--- the first n of a list behind its own first n are those of the whole
+-- the first n of a list after its own first n are those of the whole
 first_again : (n : ℕ) (xs ys : List ℕ) → take n (take n xs ++ ys) ≡ take n (xs ++ ys)
 first_again n xs ys = ⊎_elim
     (λ (short : length xs ≤ n). ap (λ (l : List ℕ). take n (l ++ ys)) (take_all n xs short))

@@ -1,5 +1,5 @@
 // What the entries give an endpoint.
-ghost use Rattle.std.specs.Prelude.{◌≡◌, ◌==◌, ◌&&◌, ◌||◌, nat_lt, nat_le, reverse, length, List, [], ◌∷◌, ◌++◌, take, ◌≤◌, OnOk, IfOk, IsTrue, if◌then◌else◌};
+ghost use Rattle.std.specs.Prelude.{◌≡◌, reverse, length, List, [], ◌∷◌, ◌++◌, take, ◌≤◌, OnOk, IfOk, IsTrue, if◌then◌else◌};
 ghost use Rattle.std.specs.List.{list_any};
 ghost use Rattle.host_ledger.specs.declared.config.Config.{Config};
 ghost use Rattle.host_ledger.specs.declared.entries.Entry.{Entry};
@@ -23,7 +23,7 @@ fn position(entry: &Entry, dest: Endpoint) -> Option<OutPos>
             head,
             verdict: Verdict::Taken { dest: to, seq },
             ..
-        } if to.bytes() == dest.bytes() => Some(OutPos {
+        } if *to == dest => Some(OutPos {
             date: head.imad.date,
             seq: *seq,
         }),
@@ -72,12 +72,12 @@ fn is_under(entry: &Entry, dest: Endpoint, date: CycleDate) -> bool
     ensures { (c : Config) (older : List Entry) (before : List Item) → count_under date (item_of c older before entry.now dest) ≡ (if result then 1 else 0) }
 {
     match position(entry, dest) {
-        Some(at) => at.date.get() == date.get(),
+        Some(at) => at.date == date,
         None => false,
     }
 }
 
-// The places of the first outputs of the endpoint at or above a position.
+// The places of the first outputs of the endpoint at a position or after it.
 #[tactic(auto, using(crate::proofs::Posted::posted_at, crate::proofs::Retrieval::few_retrieved))]
 pub(crate) fn outputs_from(
     alloc: Global,
@@ -109,20 +109,13 @@ fn keep(places: &mut Places, place: usize) -> Result<(), NoMemory>
     Ok(())
 }
 
-// Whether the entry gives the endpoint an output at or above a position.
+// Whether the entry gives the endpoint an output at a position or after it.
 fn gives_from(entry: &Entry, dest: Endpoint, from: &OutPos) -> bool
     requires { IsTrue (is_posted entry.now) }
     ensures { (c : Config) (older : List Entry) (before : List Item) → result ≡ list_any (is_from from.now) (item_of c older before entry.now dest) }
 {
     match position(entry, dest) {
-        Some(at) => is_at_or_above(&at, from),
+        Some(at) => from.is_up_to(&at),
         None => false,
     }
-}
-
-fn is_at_or_above(at: &OutPos, from: &OutPos) -> bool
-    ensures { result ≡ (nat_lt from.now.date at.now.date || ((from.now.date == at.now.date) && nat_le from.now.seq at.now.seq)) }
-{
-    let (date, first) = (at.date.get(), from.date.get());
-    first < date || (first == date && from.seq.get() <= at.seq.get())
 }

@@ -1,6 +1,6 @@
 // Searches of the list of entries.
 ghost use Rattle.std.specs.Prelude.{◌≡◌, reverse};
-ghost use Rattle.faim_model.specs.Verdicts.{same_imad, has_imad, has_body, place_of};
+ghost use Rattle.faim_model.specs.Verdicts.{has_imad, has_body, place_of};
 
 use faim_base::Imad;
 use host_ledger::Entry;
@@ -35,9 +35,7 @@ fn posts_body(entry: &Entry, imad: &Imad, text: &[u8]) -> bool
     ensures { result ≡ has_body imad.now text.now entry.now }
 {
     match entry {
-        Entry::Posted { head, body, .. } => {
-            is_same_imad(&head.imad, imad) && body.as_slice() == text
-        }
+        Entry::Posted { head, body, .. } => { head.imad == *imad && body.as_slice() == text }
         Entry::Roll { .. } => false,
     }
 }
@@ -46,15 +44,7 @@ fn posts_imad(entry: &Entry, imad: &Imad) -> bool
     ensures { result ≡ has_imad imad.now entry.now }
 {
     match entry {
-        Entry::Posted { head, .. } => is_same_imad(&head.imad, imad),
+        Entry::Posted { head, .. } => head.imad == *imad,
         Entry::Roll { .. } => false,
     }
-}
-
-fn is_same_imad(a: &Imad, b: &Imad) -> bool
-    ensures { result ≡ same_imad a.now b.now }
-{
-    a.date.get() == b.date.get()
-        && a.source.bytes() == b.source.bytes()
-        && a.seq.get() == b.seq.get()
 }

@@ -1,7 +1,8 @@
 // The host's configuration and its list.
 ghost use Rattle.std.specs.Prelude.{◌≡◌, ◌==◌, ◌∷◌, [], length, Some, None, IfOk, OnOk, OnErr, if◌then◌else◌, is_some};
 ghost use Rattle.std.specs.Option.{option_copied};
-ghost use Rattle.faim_model.specs.Accounts.{account_of};
+ghost use Rattle.host_ledger.specs.Accounts.{account_of};
+ghost use Rattle.host_ledger.specs.Soundness.{IsConfig};
 ghost use Rattle.faim_model.specs.Sums.{balance, cycle};
 ghost use Rattle.faim_model.specs.Outputs.{outputs, retrieved, places_of};
 ghost use Rattle.faim_model.specs.Verdicts.{judged};
@@ -10,7 +11,7 @@ ghost use Rattle.faim_model.specs.Turns.{effective, entry_at};
 
 use crate::outputs::{count_outputs, outputs_from};
 use crate::search::{place_of_body, place_of_imad};
-use crate::totals::{account_with, balance_of, cycle_after};
+use crate::totals::{balance_of, cycle_after};
 use crate::verdict::verdict_on;
 use faim_base::{
     Aba, CycleDate, Endpoint, Head, Moment, NoMemory, OutPos, Places, Reject, Seq, Verdict,
@@ -40,18 +41,20 @@ pub struct HostState {
 
 impl Model for HostState {
     ghost use Rattle.std.specs.Prelude.{IsTrue};
+    ghost use Rattle.host_ledger.specs.Soundness.{IsConfig};
     ghost use Rattle.host_core.specs.State.{State, are_posted};
 
     ghost Value = { State };
 
     ghost view = { λ s. record { config = s.config; entries = s.entries } };
 
-    ghost invariant = { λ s. IsTrue (are_posted s.entries) };
+    ghost invariant = { λ s. IsConfig s.config × IsTrue (are_posted s.entries) };
 }
 
 impl HostState {
-    /// A host with no entries yet.
+    /// A host with a sound configuration (docs/FORMATS.md, "Configurations") and no entries yet. `NoMemory` leaves nothing.
     pub fn new(alloc: Global, config: Config) -> Result<HostState, NoMemory>
+        requires { IsConfig config }
         ensures { IfOk result (λ s. s ≡ record { config = config; entries = [] }) }
     {
         Ok(HostState {
@@ -61,19 +64,21 @@ impl HostState {
         })
     }
 
-    /// The configuration.
+    /// The configuration. It is sound.
     pub fn config(&self) -> &Config
-        ensures { result.now ≡ self.now.config }
+        ensures value { result.now ≡ self.now.config }
+        ensures sound { IsConfig self.now.config }
     {
         &self.config
     }
 
-    /// The later of the reading and the last entry's moment.
+    /// The effective moment: the later of the clock's reading and the last entry's moment (docs/FORMATS.md, "The order of
+    /// verdicts").
     pub fn effective(&self, reading: Moment) -> Moment
         ensures { result ≡ effective self.now.entries reading }
     {
         match self.entries.as_slice().last() {
-            Some(entry) if reading.get() < moment_of(entry).get() => moment_of(entry),
+            Some(entry) if reading < moment_of(entry) => moment_of(entry),
             _ => reading,
         }
     }
@@ -106,7 +111,7 @@ impl HostState {
         self.entries.push(entry)
     }
 
-    /// The present cycle date.
+    /// The present cycle date: the date of the last `Roll`, or the opening date.
     pub fn cycle(&self) -> CycleDate
         ensures { result ≡ cycle self.now.config self.now.entries }
     {
@@ -127,8 +132,8 @@ impl HostState {
         self.entries.as_slice().is_empty()
     }
 
-    #[tactic(auto, using(crate::proofs::Places::entry_found, crate::proofs::Places::entry_missing))]
     /// The entry at a place, counted from 0 at the oldest. None exactly where the place isn't below the length.
+    #[tactic(auto, using(crate::proofs::Places::entry_found, crate::proofs::Places::entry_missing))]
     pub fn entry(&self, place: usize) -> Option<&Entry>
         ensures { option_copied result ≡ entry_at self.now.entries place }
     {
@@ -145,7 +150,7 @@ impl HostState {
     pub fn balance(&self, aba: &Aba) -> Option<i128>
         ensures { result ≡ (if is_some (account_of self.now.config aba.now) then Some (balance self.now.config self.now.entries aba.now) else None) }
     {
-        let account = account_with(&self.config, aba)?;
+        let account = self.config.account(aba)?;
         Some(balance_of(account.opening, self.entries.as_slice(), aba))
     }
 
@@ -156,7 +161,8 @@ impl HostState {
         count_outputs(&self.config, self.entries.as_slice(), dest)
     }
 
-    /// The places of the entries that give the endpoint its outputs at or above a position, in order, at most the first 64.
+    /// The places of the entries that give the endpoint its outputs at a position or after it, in order, at most the first
+    /// 64 (docs/FORMATS.md, "The order of verdicts"). `NoMemory` changes nothing.
     pub fn retrieve(&self, dest: Endpoint, at: OutPos) -> Result<Places, NoMemory>
         ensures { IfOk result (λ places. places ≡ places_of (retrieved self.now.config self.now.entries dest at)) }
     {

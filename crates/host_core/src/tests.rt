@@ -1,5 +1,6 @@
 // A day of two banks: one on the line BANKA001 pays the other, on the line BANKB001.
 ghost use Rattle.std.specs.Prelude.{◌≡◌, ◌∷◌, [], IfOk, pos, codes};
+ghost use Rattle.host_ledger.specs.Soundness.{IsConfig};
 ghost use Rattle.faim_model.specs.Lawful.{Follows};
 
 use crate::*;
@@ -254,7 +255,8 @@ fn payment() -> Result<Head, Fail>
 
 // 2024-01-02, with 18:00 and 18:30 as its cutoffs.
 fn config(alloc: Global) -> Result<Config, Fail>
-    ensures { IfOk result (λ c. c ≡ record {
+    ensures sound { IfOk result IsConfig }
+    ensures value { IfOk result (λ c. c ≡ record {
       env = 84;
       date = 8767;
       customer = 1080;
@@ -276,13 +278,17 @@ fn config(alloc: Global) -> Result<Config, Fail>
         opening: 0,
         floor: 0,
     })?;
-    Ok(Config {
+    let config = Config {
         env: b'T',
         date: date(8767)?,
         customer: 1080,
         bank: 1110,
         accounts,
-    })
+    };
+    if !config.is_sound() {
+        return Err(Fail::from("a sound configuration"));
+    }
+    Ok(config)
 }
 
 // The host before its first entry, and the payment as that entry.

@@ -1,23 +1,9 @@
 // Sums and counts over the list of entries.
 ghost use Rattle.std.specs.Prelude.{◌≡◌, ◌^◌, ◌≤◌, reverse, pos, neg_ℤ, ◌+ℤ◌, ◌-ℤ◌, ◌≤ℤ◌};
-ghost use Rattle.std.specs.Option.{option_copied};
-ghost use Rattle.faim_model.specs.Accounts.{account_of};
 ghost use Rattle.faim_model.specs.Sums.{cycle, gives, takes, received, paid, moves_money};
 
 use faim_base::{Aba, CycleDate, Head, Verdict};
-use host_ledger::{Account, Config, Entry};
-
-// The account with this number.
-pub(crate) fn account_with<'a>(config: &'a Config, aba: &Aba) -> Option<&'a Account>
-    ensures { option_copied result ≡ account_of config.now aba.now }
-{
-    for account in config.accounts.as_slice() {
-        if account.aba.bytes() == aba.bytes() {
-            return Some(account);
-        }
-    }
-    None
-}
+use host_ledger::{Config, Entry};
 
 // The cycle date after these entries.
 pub(crate) fn cycle_after(config: &Config, entries: &[Entry]) -> CycleDate
@@ -51,16 +37,8 @@ fn moved(entry: &Entry, aba: &Aba) -> (u64, u64)
             ..
         } if moves_money(head) => {
             let amount = head.amount.get();
-            let gives = if head.receiver.bytes() == aba.bytes() {
-                amount
-            } else {
-                0
-            };
-            let takes = if head.sender.bytes() == aba.bytes() {
-                amount
-            } else {
-                0
-            };
+            let gives = if head.receiver == *aba { amount } else { 0 };
+            let takes = if head.sender == *aba { amount } else { 0 };
             (gives, takes)
         }
         _ => (0, 0),

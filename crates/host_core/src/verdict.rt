@@ -1,14 +1,15 @@
 // The verdict on a message that is new.
-ghost use Rattle.std.specs.Prelude.{◌≡◌, ◌+◌, ◌*◌, ◌&&◌, nat_le, reverse, IsTrue, ◌^◌, pos, neg_ℤ, ◌+ℤ◌, ◌-ℤ◌, ◌≤ℤ◌, int_lt};
+ghost use Rattle.std.specs.Prelude.{◌≡◌, ◌+◌, ◌*◌, nat_le, reverse, IsTrue, ◌^◌, pos, neg_ℤ, ◌-ℤ◌, ◌≤ℤ◌, int_lt, Some};
 ghost use Rattle.faim_base.specs.declared.judgement.Verdict.TheVariants.{Refused};
 ghost use Rattle.faim_base.specs.Refusals.{refusal};
 ghost use Rattle.faim_model.specs.declared.decisions.Decision.TheVariants.{New};
-ghost use Rattle.faim_model.specs.Sums.{received, paid, moves_money};
-ghost use Rattle.faim_model.specs.Verdicts.{judged_new, is_customer};
+ghost use Rattle.host_ledger.specs.declared.config.Config.{Config};
+ghost use Rattle.host_ledger.specs.Accounts.{account_of};
+ghost use Rattle.faim_model.specs.Verdicts.{judged_new, is_below_floor, is_customer};
 ghost use Rattle.host_core.specs.State.{are_posted};
 
 use crate::outputs::count_under;
-use crate::totals::{account_with, balance_of, cycle_after, moves_money};
+use crate::totals::{balance_of, cycle_after, moves_money};
 use faim_base::{CycleDate, Endpoint, Head, Moment, Reject, Seq, Verdict};
 use host_ledger::{Account, Config, Entry};
 
@@ -28,17 +29,17 @@ pub(crate) fn verdict_on(
     ensures { New result ≡ judged_new config.now (reverse entries.now) line moment head.now edit }
 {
     let cycle = cycle_after(config, entries);
-    if head.imad.date.get() != cycle.get() {
+    if head.imad.date != cycle {
         return refused(b'H', 101);
     }
     if let Some(why) = edit {
         return Verdict::Refused(why);
     }
-    let sender = match account_with(config, &head.sender) {
-        Some(account) if account.endpoint.bytes() == line.bytes() => account,
+    let sender = match config.account(&head.sender) {
+        Some(account) if account.endpoint == line => account,
         _ => return refused(b'E', 161),
     };
-    let receiver = match account_with(config, &head.receiver) {
+    let receiver = match config.account(&head.receiver) {
         Some(account) => account,
         None => return refused(b'E', 162),
     };
@@ -73,7 +74,7 @@ fn is_customer(head: &Head) -> bool
     head.code == *b"CTR"
 }
 
-// Whether a moment is at or behind a cutoff of the cycle date.
+// Whether a moment is at or after a cutoff of the cycle date.
 fn is_past(cycle: CycleDate, cutoff: u16, moment: Moment) -> bool
     ensures { result ≡ nat_le (1440 * cycle + cutoff) moment }
 {
@@ -82,7 +83,7 @@ fn is_past(cycle: CycleDate, cutoff: u16, moment: Moment) -> bool
 
 // Whether the amount would take the sender's balance below its floor.
 fn is_below_floor(sender: &Account, entries: &[Entry], head: &Head) -> bool
-    ensures { result ≡ (moves_money head.now && int_lt (((sender.now.opening +ℤ pos (received (reverse entries.now) head.now.sender)) -ℤ pos (paid (reverse entries.now) head.now.sender)) -ℤ pos head.now.amount) sender.now.floor) }
+    ensures { (c : Config) → account_of c head.now.sender ≡ Some sender.now → result ≡ is_below_floor c (reverse entries.now) head.now }
 {
     moves_money(head)
         && falls_below(

@@ -104,7 +104,7 @@ module _ (x : ℕ) where
         (λ before. filled_outside p (put x image at (replicate n x)) more k (inl before) ∙ put_in_range image at n k some le lt)
         (λ from. ⊎_elim
         (λ within. filled_in p (put x image at (replicate n x)) more k from within)
-        (λ behind. filled_outside p (put x image at (replicate n x)) more k (inr behind) ∙ put_in_range image at n k some le lt)
+        (λ after. filled_outside p (put x image at (replicate n x)) more k (inr after) ∙ put_in_range image at n k some le lt)
         (cases_lt k p.end))
         (cases_lt k p.from)
         ∙ sym (put_in_range (filled x p image) at n k some (omega (arith, length_filled p image inside)) lt)
@@ -117,7 +117,7 @@ module _ (x : ℕ) where
         (λ before. filled_outside p (put x image at (replicate n x)) more k (inl before) ∙ put_outside x image at (replicate n x) k lt out' ∙ sym (filled_outside p image inside k (inl before)))
         (λ from. ⊎_elim
         (λ within. filled_in p (put x image at (replicate n x)) more k from within ∙ sym (filled_in p image inside k from within))
-        (λ behind. filled_outside p (put x image at (replicate n x)) more k (inr behind) ∙ put_outside x image at (replicate n x) k lt out' ∙ sym (filled_outside p image inside k (inr behind)))
+        (λ after. filled_outside p (put x image at (replicate n x)) more k (inr after) ∙ put_outside x image at (replicate n x) k lt out' ∙ sym (filled_outside p image inside k (inr after)))
         (cases_lt k p.end))
         (cases_lt k p.from)
         ∙ sym (put_outside x (filled x p image) at (replicate n x) k (omega (arith, lt, length_filled p image inside)) out')
@@ -131,7 +131,7 @@ module _ (x : ℕ) where
         (λ inside'. ⊎_elim (λ l. miss k inside' (inl l)) (λ g. hit k (omega arith) below) (cases_lt k at))
         (λ past. hit k (omega arith) below)
         (cases_lt k (length image)))
-        (λ behind. miss k (omega (arith, whole, behind)) (inr behind))
+        (λ after. miss k (omega (arith, whole, after)) (inr after))
         (cases_lt k (at + n)))
 
   still_within : (ps : List Patch) (m n : ℕ) → m ≤ n → AllWithin m ps → AllWithin n ps

@@ -38,7 +38,7 @@ put_wide image at bytes some =
     ∙ ap (λ (l : List ℕ). fronted 0 image at ++ bytes ++ l) (wide_back image (at + length bytes))
     ∙ sym (put_some 0 image at bytes some)
 
--- what a write leaves in front of the range, and behind it
+-- what a write leaves in front of the range, and after it
 pub put_from : (filler : ℕ) (image : List ℕ) (at : ℕ) (bytes : List ℕ) → 0 < length bytes → take (min at (length image)) (put filler image at bytes) ≡ take (min at (length image)) image
 put_from filler image at bytes some =
     let more = bytes ++ drop (at + length bytes) image in

@@ -1,4 +1,4 @@
--- The rest of a list as a piece of it and what stands behind that piece.
+-- The rest of a list as a piece of it and what stands after that piece.
 use Rattle.std.proofs.Common.{◌≡◌, ℕ, ◌-◌, ◌+◌, ◌≤◌, List, ◌++◌, take, drop, sym, ◌∙◌, ap, arith, take-append-drop}
 use Rattle.std.proofs.lemmas.List.{drop-drop}
 

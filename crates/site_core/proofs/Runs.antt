@@ -1,10 +1,10 @@
 -- Device calls one after another.
-use Rattle.std.proofs.Common.{◌≡◌, ◌⊎◌, inl, inr, ⊎_elim, ℕ, ◌+◌, ◌<◌, ◌≤◌, List, [], ◌∷◌, ◌++◌, refl, sym, ◌∙◌, ap, Bool, true, false, Option, Some, None, append_assoc, arith}
+use Rattle.std.proofs.Common.{◌≡◌, ◌⊎◌, inl, inr, ⊎_elim, ℕ, ◌+◌, ◌-◌, ◌^◌, ◌<◌, ◌≤◌, min, List, [], ◌∷◌, ◌++◌, refl, sym, ◌∙◌, ap, Bool, true, false, Option, Some, None, append_assoc, arith}
 use Rattle.std.specs.Prelude.{IsTrue, IfSome}
 use Rattle.std.proofs.lemmas.Bool.{cases_lt}
 use Rattle.site_core.specs.Log.{Act, okays}
 use Rattle.site_core.specs.Log.Act.{Asked, Wrote, WriteFailed, Synced, SyncFailed, Sent, SendFailed, Restarted}
-use Rattle.site_core.specs.Told.{Told, Part, unarmed, Goes, Counted, Ran, HasReason, Because}
+use Rattle.site_core.specs.Told.{Told, Part, unarmed, Goes, Counted, Ran, HasReason, HasOneReason, Because}
 use Rattle.site_core.specs.Told.Part.{Disk, Line}
 
 -- a weaker fact of the same calls
@@ -99,6 +99,16 @@ reason_after part a b c p q reason = ⊎_elim
     (λ rose. inr (omega (arith, rose, unarmed_later part a b p)))
     reason
 
+-- the reason of one call is a reason
+pub reason_one : (part : Part) (a b : Told) → HasOneReason part a b → HasReason part a b
+reason_one part a b one = ⊎_elim
+    (λ disturbed. ⊎_elim
+    (λ stopped. inl (inl stopped.0))
+    (λ more. ⊎_elim (λ reached. inl (inr (inl reached.1))) (λ lacking. inl (inr (inr lacking.2))) more)
+    disturbed)
+    (λ unarmed. inr unarmed.3)
+    one
+
 -- where a count of faults rose over all the calls, it rose over the earlier or the later ones
 pub because_on : (part : Part) (f g h : ℕ) (a b c : Told) → Counted a b → Counted b c → Because part f g a b → Because part g h b c → Because part f h a c
 because_on part f g h a b c p q first second rose = ⊎_elim
@@ -117,6 +127,27 @@ okays-append (SyncFailed ∷ xs) ys = okays-append xs ys
 okays-append (SendFailed frame kept ∷ xs) ys = okays-append xs ys
 okays-append (Restarted image ∷ xs) ys = okays-append xs ys
 
+-- where no call went through the stop wasn't reached
+pub unreached_by_none : (armed through : ℕ) → through ≡ 0 → (armed ≡ 0) ⊎ (through < armed)
+unreached_by_none armed through none = ⊎_elim (λ some. inr (omega (arith, some, none))) (λ zero. inl (omega (arith, zero))) (cases_lt 0 armed)
+
+-- nor by calls that went through and more that did
+unreached_on : (a b : Told) (first more : List Act) → Counted a b → b.calls ≡ a.calls + okays first → (a.armed ≡ 0) ⊎ (okays first < a.armed) → (b.armed ≡ 0) ⊎ (okays more < b.armed) → (a.armed ≡ 0) ⊎ (okays (more ++ first) < a.armed)
+unreached_on a b first more counted calls before later = ⊎_elim
+    (λ none. inl none)
+    (λ some. ⊎_elim
+    (λ none. absurd (omega (arith, some, none, counted.armed, calls)))
+    (λ left. inr (omega (arith, left, counted.armed, calls, okays-append more first)))
+    later)
+    before
+
+-- where a stop was reached, it was armed for the call that failed
+pub armed_for : (acts : List Act) (a b : Told) → Counted a b → (a.armed ≡ 0) ⊎ (okays acts < a.armed) → b.calls ≡ min (a.calls + okays acts + 1) (2 ^ 64 - 1) → a.stops < b.stops → a.armed ≡ okays acts + 1
+armed_for acts a b counted unreached calls rose = ⊎_elim
+    (λ none. absurd (omega (arith, none, rose, counted.stops)))
+    (λ some. omega (arith, some, calls, rose, counted.stops, counted.armed))
+    unreached
+
 -- no calls
 pub ran_none : (P : List Act → Type 0) (a : Told) → P [] → Ran true P a a
 ran_none P a p = record {
@@ -124,11 +155,12 @@ ran_none P a p = record {
   grew = refl;
   are = p;
   counted = counted_same a;
+  unreached = unreached_by_none a.armed 0 refl;
   ended = (omega arith, record { stops = refl; lacks = refl; unarmed_disk = refl; unarmed_line = refl });
 }
 
 pub ran_as : (whole : Bool) (P Q : List Act → Type 0) (a b : Told) → ((x : List Act) → P x → Q x) → Ran whole P a b → Ran whole Q a b
-ran_as whole P Q a b f p = record { acts = p.acts; grew = p.grew; are = f p.acts p.are; counted = p.counted; ended = p.ended }
+ran_as whole P Q a b f p = record { acts = p.acts; grew = p.grew; are = f p.acts p.are; counted = p.counted; unreached = p.unreached; ended = p.ended }
 
 -- calls that went through, and more calls
 pub ran_on : (whole : Bool) (P Q R : List Act → Type 0) (a b c : Told) → ((x y : List Act) → P x → Q y → R (y ++ x)) → Ran true P a b → Ran whole Q b c → Ran whole R a c
@@ -137,6 +169,7 @@ ran_on true P Q R a b c f p q = record {
   grew = q.grew ∙ ap (λ (l : List Act). q.acts ++ l) p.grew ∙ sym (append_assoc q.acts p.acts a.log);
   are = f p.acts q.acts p.are q.are;
   counted = counted_on a b c p.counted q.counted;
+  unreached = unreached_on a b p.acts q.acts p.counted p.ended.0 p.unreached q.unreached;
   ended = (
     omega (arith, p.ended.0, q.ended.0, okays-append q.acts p.acts),
     record {
@@ -152,6 +185,7 @@ ran_on false P Q R a b c f p q = record {
   grew = q.grew ∙ ap (λ (l : List Act). q.acts ++ l) p.grew ∙ sym (append_assoc q.acts p.acts a.log);
   are = f p.acts q.acts p.are q.are;
   counted = counted_on a b c p.counted q.counted;
+  unreached = unreached_on a b p.acts q.acts p.counted p.ended.0 p.unreached q.unreached;
   ended = (q.ended.0, omega (arith, p.ended.0, q.ended.1, okays-append q.acts p.acts));
 }
 

@@ -5,7 +5,7 @@ use Rattle.std.specs.Prelude.{◌≡◌, ◌⊎◌, ℕ, ◌+◌, ◌≤◌, ◌
 abbrev pub NoCutBetween : List ℕ → ℕ → ℕ → Type 0
 NoCutBetween cuts at end = (k : ℕ) → k < length cuts → (slice_index cuts k ≤ at) ⊎ (end ≤ slice_index cuts k)
 
--- a read from a place goes as far as the limit or to the first cut behind the place, and so at least one byte
+-- a read from a place goes as far as the limit or to the first cut after the place, and so at least one byte
 pub record ReadEnds (cuts : List ℕ) (at limit end : ℕ) : Type 0 where
   pub some : min (at + 1) limit ≤ end
   pub within : end ≤ limit

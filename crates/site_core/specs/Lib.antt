@@ -4,6 +4,7 @@ pub mod Cuts
 pub mod Image
 pub mod Log
 pub mod Memory
+pub mod Pending
 pub mod Tears
 pub mod Told
 pub mod Turns

@@ -7,7 +7,7 @@ pub data Act : Type 0 where
   -- a size or a read, which changes nothing
   Asked : Act
   Wrote : (at : ℕ) (bytes : List ℕ) → Act
-  -- a write that failed; its range reads as the bytes that were found, and behind these as before
+  -- a write that failed; its range reads as the bytes that were found, and after these as before
   WriteFailed : (at : ℕ) (bytes found : List ℕ) → Act
   Synced : Act
   SyncFailed : Act

@@ -16,7 +16,7 @@ pub record Told : Type 0 where
   -- how many device calls are left to the armed stop; 0 where none is armed
   pub armed : ℕ
   pub stopped : Bool
-  -- how many calls failed because the site itself found no memory
+  -- how many calls found no memory in the site itself; each of them failed
   pub lacks : ℕ
   -- how many calls failed for neither reason, of the disk and of the line
   pub unarmed_disk : ℕ
@@ -69,11 +69,29 @@ IsDisturbed old new = IsTrue old.stopped ⊎ ((old.stops < new.stops) ⊎ Rose o
 abbrev pub HasReason : Part → Told → Told → Type 0
 HasReason part old new = IsDisturbed old new ⊎ Rose (unarmed part old) (unarmed part new)
 
--- why one call failed: the unarmed count rises for no other reason
+-- no more calls can be counted
+abbrev pub IsFull : Told → Type 0
+IsFull site = site.calls ≡ 2 ^ 64 - 1
+
+-- a call failed since the site was stopped before
+abbrev pub FailsStopped : Part → Told → Told → Type 0
+FailsStopped part old new = IsTrue old.stopped × (new.stops ≡ old.stops) × (new.lacks ≡ old.lacks) × (unarmed part new ≡ unarmed part old)
+
+-- a call failed since it reached the stop; it may lack memory for its act, and then it leaves none
+abbrev pub FailsAtStop : Part → Told → Told → Type 0
+FailsAtStop part old new = (old.stopped ≡ false) × (old.stops < new.stops) × ((new.lacks ≡ old.lacks) ⊎ ((new.log ≡ old.log) × Rose old.lacks new.lacks)) × (unarmed part new ≡ unarmed part old)
+
+-- a call failed since the site found no memory
+abbrev pub FailsLacking : Part → Told → Told → Type 0
+FailsLacking part old new = (old.stopped ≡ false) × (new.stops ≡ old.stops) × Rose old.lacks new.lacks × (unarmed part new ≡ unarmed part old)
+
+-- a call failed for none of these reasons, or since no more calls can be counted
+abbrev pub FailsUnarmed : Part → Told → Told → Type 0
+FailsUnarmed part old new = ((old.stopped ≡ false) ⊎ IsFull old) × (new.stops ≡ old.stops) × (new.lacks ≡ old.lacks) × Rose (unarmed part old) (unarmed part new)
+
+-- why one call failed: the count of its reason rises, and those of the others stay
 abbrev pub HasOneReason : Part → Told → Told → Type 0
-HasOneReason part old new =
-    (IsDisturbed old new × (unarmed part new ≡ unarmed part old))
-    ⊎ (Rose (unarmed part old) (unarmed part new) × (new.stops ≡ old.stops) × (new.lacks ≡ old.lacks))
+HasOneReason part old new = (FailsStopped part old new ⊎ (FailsAtStop part old new ⊎ FailsLacking part old new)) ⊎ FailsUnarmed part old new
 
 -- device calls that did what P says; either all went through, or the last failed and no other did
 pub record Ran (whole : Bool) (P : List Act → Type 0) (old new : Told) : Type 0 where
@@ -81,7 +99,10 @@ pub record Ran (whole : Bool) (P : List Act → Type 0) (old new : Told) : Type 
   pub grew : new.log ≡ acts ++ old.log
   pub are : P acts
   pub counted : Counted old new
-  pub ended : MatchBool whole ((new.calls ≡ old.calls + okays acts) × Calm old new) (IsTrue new.failed × (new.calls ≤ old.calls + okays acts + 1))
+  -- those that went through didn't reach the armed stop
+  pub unreached : (old.armed ≡ 0) ⊎ (okays acts < old.armed)
+  -- the calls made are those that went through, and one more where one failed
+  pub ended : MatchBool whole ((new.calls ≡ old.calls + okays acts) × Calm old new) (IsTrue new.failed × (new.calls ≡ min (old.calls + okays acts + 1) (2 ^ 64 - 1)))
 
 -- one device call of a part
 pub record CallsOnce {T E : Type 0} (part : Part) (result : Result T E) (P : List Act → Type 0) (old new : Told) : Type 0 where
@@ -91,8 +112,8 @@ pub record CallsOnce {T E : Type 0} (part : Part) (result : Result T E) (P : Lis
   pub running : OnOk result (old.stopped ≡ false × (new.failed ≡ false))
   pub reason : OnErr result (HasOneReason part old new)
   pub kept : unarmed (other part) new ≡ unarmed (other part) old
-  -- no more calls can be counted
-  pub full : old.calls ≡ 2 ^ 64 - 1 → (new.log ≡ old.log) × (new.lacks ≡ old.lacks) × Rose (unarmed part old) (unarmed part new)
+  -- it is counted no more, and leaves nothing but that it failed
+  pub full : IsFull old → (new.log ≡ old.log) × FailsUnarmed part old new
 
 -- a question that went through leaves its trace, and one that failed none
 abbrev pub Asks : {T E : Type 0} → Result T E → Told → Told → Type 0

@@ -22,12 +22,12 @@ told_of log counts disk line = record {
   unarmed_line = line.unarmed;
 }
 
--- the call goes on; or a stop is reached; or it fails, on a site that is stopped or for no such reason
+-- the call goes on; or it reaches the stop; or it fails, on a site that is stopped or for no such reason
 abbrev pub TurnsOut : Turn → Counts → Counts → Faults → Faults → Type 0
 TurnsOut Goes counts now faults more = (now.failed ≡ false) × (now.made ≡ counts.made + 1) × (now.stops ≡ counts.stops) × (counts.stopped ≡ false) × (more ≡ faults)
-TurnsOut Stops counts now faults more = (now.failed ≡ true) × (now.made ≡ counts.made + 1) × (counts.stops < now.stops) × Rose faults.all more.all × (more.unarmed ≡ faults.unarmed)
-TurnsOut Fails counts now faults more = (now.failed ≡ true) × Rose faults.all more.all
-    × ((IsTrue counts.stopped × (more.unarmed ≡ faults.unarmed) × (now.made ≡ counts.made + 1)) ⊎ (Rose faults.unarmed more.unarmed × (now.stops ≡ counts.stops)))
+TurnsOut Stops counts now faults more = (now.failed ≡ true) × (now.made ≡ counts.made + 1) × (counts.stops < now.stops) × (counts.stopped ≡ false) × Rose faults.all more.all × (more.unarmed ≡ faults.unarmed)
+TurnsOut Fails counts now faults more = (now.failed ≡ true) × (now.stops ≡ counts.stops) × Rose faults.all more.all
+    × ((IsTrue counts.stopped × (now.made ≡ counts.made + 1) × (more.unarmed ≡ faults.unarmed)) ⊎ (((counts.stopped ≡ false) ⊎ (counts.made ≡ 2 ^ 64 - 1)) × Rose faults.unarmed more.unarmed))
 
 pub record Begins (turn : Turn) (counts now : Counts) (faults more : Faults) : Type 0 where
   pub once : now.made ≡ min (counts.made + 1) (2 ^ 64 - 1)

@@ -4,7 +4,8 @@ ghost use Rattle.site_core.specs.Counts.{Rose};
 ghost use Rattle.site_core.specs.Turns.{Begins};
 ghost use Rattle.site_core.specs.declared.counts.Turn.TheVariants.{Goes, Stops};
 
-use crate::memory_source::is_listed;
+use crate::listed::is_listed;
+use faim_base::Failed;
 
 /// The calls made and whether the newest failed, the stops reached, the calls left to the armed stop or 0, whether
 /// the site is stopped, and the calls that found no memory.
@@ -105,8 +106,8 @@ fn turn_away(faults: &mut Faults) -> Turn
     Turn::Fails
 }
 
-// Counts a call that found no memory.
-pub(crate) fn lack(counts: &mut Counts, faults: &mut Faults)
+// Counts a call that found no memory, and gives what it answers.
+pub(crate) fn lack(counts: &mut Counts, faults: &mut Faults) -> Failed
     ensures lacks { Rose counts.old.lacks counts.new.lacks }
     ensures lacks_later { counts.old.lacks ≤ counts.new.lacks }
     ensures others { counts.new ≡ record counts.old { failed = true; lacks = counts.new.lacks } }
@@ -117,4 +118,5 @@ pub(crate) fn lack(counts: &mut Counts, faults: &mut Faults)
     counts.failed = true;
     counts.lacks = counts.lacks.saturating_add(1);
     faults.all = faults.all.saturating_add(1);
+    Failed
 }

@@ -4,6 +4,7 @@
 mod counts;
 mod disk;
 mod laws;
+mod listed;
 mod memory_calls;
 mod memory_sink;
 mod memory_site;
@@ -17,7 +18,11 @@ mod streams;
 #[cfg(test)]
 mod tests;
 
-pub use laws::{counts_on, left_now, left_on, nothing_pending, reads_left};
+pub use laws::{
+    counts_on, counts_rise, failed_calls_may_leave, left_now, left_on, nothing_pending, one_reason,
+    pending_stays, reads_left, restarts_may_give, sends_may_be_cut, stop_reached,
+    writes_may_be_torn,
+};
 pub use memory_sink::MemSink;
 pub use memory_site::MemSite;
 pub use memory_source::MemSource;

@@ -1,18 +1,41 @@
 // The device calls of a site in memory: each has the clauses of `Site`, and below them its own.
 ghost use Rattle.std.specs.Prelude.{◌≡◌, ◌≤◌, ◌-◌, ◌%◌, ◌==◌, ◌∷◌, Some, IfOk, OnOk, OnErr, min, length, take, drop};
 ghost use Rattle.std.specs.Io.{ReadsAtMost};
-ghost use Rattle.site_core.specs.Choices.{told_by, FailsOnly, FailsWhereListed, KeepsChoices, IsCutShort};
+ghost use Rattle.site_core.specs.Choices.{told_by, FailsByList, KeepsChoices, IsCutShort, LeavesNothing};
 ghost use Rattle.site_core.specs.Counts.{HasCause};
 ghost use Rattle.site_core.specs.Log.{reads};
 ghost use Rattle.site_core.specs.Log.Act.{WriteFailed, Sent, SendFailed};
 ghost use Rattle.site_core.specs.Told.{Asks, Writes, Syncs, Sends, IsRead};
+ghost use Rattle.site_core.specs.Told.Part.{Disk, Line};
 
 use crate::counts::{Turn, begin, lack};
 use crate::disk::write;
+use crate::memory_source::give;
 use crate::past::Past;
 use crate::{MemSite, Site};
 use faim_base::{Bytes, Failed, NoMemory};
 use std::alloc::Global;
+
+impl MemSite {
+    // A question of the disk: it goes through and leaves its trace, or it fails.
+    fn ask(&mut self) -> Result<(), Failed>
+        ensures told { Asks result (told_by self.old) (told_by self.new) }
+        ensures cause { HasCause self.old.disk.all self.new.disk.all result }
+        ensures line { self.new.line.all ≡ self.old.line.all }
+        ensures fails { FailsByList Disk result self.old.fails (told_by self.old) (told_by self.new) }
+        ensures keeps { KeepsChoices self.old self.new }
+        ensures leaves { OnErr result (LeavesNothing (told_by self.old) (told_by self.new)) }
+    {
+        match begin(&mut self.counts, &mut self.disk, self.fails.as_slice()) {
+            Turn::Goes => match self.past.asked() {
+                Ok(()) => Ok(()),
+                Err(_) => Err(lack(&mut self.counts, &mut self.disk)),
+            },
+            Turn::Stops => Err(Failed),
+            Turn::Fails => Err(Failed),
+        }
+    }
+}
 
 impl Site for MemSite {
     ghost told = { λ s. Some (told_by s) };
@@ -27,20 +50,13 @@ impl Site for MemSite {
         ensures cause { HasCause self.old.disk.all self.new.disk.all result }
         ensures line { self.new.line.all ≡ self.old.line.all }
 
-        ensures fails { FailsOnly self.old.fails result (told_by self.old) (told_by self.new) }
-        ensures listed { FailsWhereListed self.old.fails result (told_by self.old) }
+        ensures fails { FailsByList Disk result self.old.fails (told_by self.old) (told_by self.new) }
         ensures keeps { KeepsChoices self.old self.new }
+        ensures leaves { OnErr result (LeavesNothing (told_by self.old) (told_by self.new)) }
     {
-        match begin(&mut self.counts, &mut self.disk, self.fails.as_slice()) {
-            Turn::Goes => match self.past.asked() {
-                Ok(()) => Ok(self.image.len() as u64),
-                Err(_) => {
-                    lack(&mut self.counts, &mut self.disk);
-                    Err(Failed)
-                }
-            },
-            Turn::Stops => Err(Failed),
-            Turn::Fails => Err(Failed),
+        match self.ask() {
+            Ok(()) => Ok(self.image.len() as u64),
+            Err(fault) => Err(fault),
         }
     }
 
@@ -51,20 +67,13 @@ impl Site for MemSite {
         ensures cause { HasCause self.old.disk.all self.new.disk.all result }
         ensures line { self.new.line.all ≡ self.old.line.all }
 
-        ensures fails { FailsOnly self.old.fails result (told_by self.old) (told_by self.new) }
-        ensures listed { FailsWhereListed self.old.fails result (told_by self.old) }
+        ensures fails { FailsByList Disk result self.old.fails (told_by self.old) (told_by self.new) }
         ensures keeps { KeepsChoices self.old self.new }
+        ensures leaves { OnErr result (LeavesNothing (told_by self.old) (told_by self.new)) }
     {
-        match begin(&mut self.counts, &mut self.disk, self.fails.as_slice()) {
-            Turn::Goes => match self.past.asked() {
-                Ok(()) => Ok(give(&self.image, at, buf)),
-                Err(_) => {
-                    lack(&mut self.counts, &mut self.disk);
-                    Err(Failed)
-                }
-            },
-            Turn::Stops => Err(Failed),
-            Turn::Fails => Err(Failed),
+        match self.ask() {
+            Ok(()) => Ok(read_from(&self.image, at, buf)),
+            Err(fault) => Err(fault),
         }
     }
 
@@ -73,8 +82,7 @@ impl Site for MemSite {
         ensures cause { HasCause self.old.disk.all self.new.disk.all result }
         ensures line { self.new.line.all ≡ self.old.line.all }
 
-        ensures fails { FailsOnly self.old.fails result (told_by self.old) (told_by self.new) }
-        ensures listed { FailsWhereListed self.old.fails result (told_by self.old) }
+        ensures fails { FailsByList Disk result self.old.fails (told_by self.old) (told_by self.new) }
         ensures keeps { KeepsChoices self.old self.new }
         ensures leaves { OnErr result (IsCutShort (WriteFailed at bytes.now bytes.now) (told_by self.old) (told_by self.new)) }
     {
@@ -89,10 +97,7 @@ impl Site for MemSite {
                 false,
             ) {
                 Ok(()) => Ok(()),
-                Err(_) => {
-                    lack(&mut self.counts, &mut self.disk);
-                    Err(Failed)
-                }
+                Err(_) => Err(lack(&mut self.counts, &mut self.disk)),
             },
             Turn::Stops => match write(
                 self.alloc,
@@ -104,10 +109,7 @@ impl Site for MemSite {
                 true,
             ) {
                 Ok(()) => Err(Failed),
-                Err(_) => {
-                    lack(&mut self.counts, &mut self.disk);
-                    Err(Failed)
-                }
+                Err(_) => Err(lack(&mut self.counts, &mut self.disk)),
             },
             Turn::Fails => Err(Failed),
         }
@@ -118,10 +120,9 @@ impl Site for MemSite {
         ensures cause { HasCause self.old.disk.all self.new.disk.all result }
         ensures line { self.new.line.all ≡ self.old.line.all }
 
-        ensures fails { FailsOnly self.old.fails result (told_by self.old) (told_by self.new) }
-        ensures listed { FailsWhereListed self.old.fails result (told_by self.old) }
+        ensures fails { FailsByList Disk result self.old.fails (told_by self.old) (told_by self.new) }
         ensures keeps { KeepsChoices self.old self.new }
-        ensures leaves { OnErr result (self.new.past ≡ self.old.past) }
+        ensures leaves { OnErr result (LeavesNothing (told_by self.old) (told_by self.new)) }
     {
         match begin(&mut self.counts, &mut self.disk, self.fails.as_slice()) {
             Turn::Goes => match self.past.synced() {
@@ -129,10 +130,7 @@ impl Site for MemSite {
                     self.over.clear();
                     Ok(())
                 }
-                Err(_) => {
-                    lack(&mut self.counts, &mut self.disk);
-                    Err(Failed)
-                }
+                Err(_) => Err(lack(&mut self.counts, &mut self.disk)),
             },
             Turn::Stops => Err(Failed),
             Turn::Fails => Err(Failed),
@@ -144,33 +142,26 @@ impl Site for MemSite {
         ensures cause { HasCause self.old.line.all self.new.line.all result }
         ensures disk { self.new.disk.all ≡ self.old.disk.all }
 
-        ensures fails { FailsOnly self.old.fails result (told_by self.old) (told_by self.new) }
-        ensures listed { FailsWhereListed self.old.fails result (told_by self.old) }
+        ensures fails { FailsByList Line result self.old.fails (told_by self.old) (told_by self.new) }
         ensures keeps { KeepsChoices self.old self.new }
         ensures leaves { OnErr result (IsCutShort (SendFailed frame.now (self.old.tear % 2 == 1)) (told_by self.old) (told_by self.new)) }
     {
         match begin(&mut self.counts, &mut self.line, self.fails.as_slice()) {
             Turn::Goes => match send_whole(self.alloc, &mut self.past, frame) {
                 Ok(()) => Ok(()),
-                Err(_) => {
-                    lack(&mut self.counts, &mut self.line);
-                    Err(Failed)
-                }
+                Err(_) => Err(lack(&mut self.counts, &mut self.line)),
             },
             Turn::Stops => match send_torn(self.alloc, &mut self.past, frame, self.tear % 2 == 1) {
                 Ok(()) => Err(Failed),
-                Err(_) => {
-                    lack(&mut self.counts, &mut self.line);
-                    Err(Failed)
-                }
+                Err(_) => Err(lack(&mut self.counts, &mut self.line)),
             },
             Turn::Fails => Err(Failed),
         }
     }
 }
 
-// Copies what stands from a place on, as much as there is and the buffer takes.
-fn give(image: &[u8], at: u64, buf: &mut [u8]) -> usize
+// Copies what stands from a place on, as much as there is and the buffer takes, and says how much that is.
+fn read_from(image: &[u8], at: u64, buf: &mut [u8]) -> usize
     ensures count { result ≡ min (length buf.new) (length image.now - at) }
     ensures bytes { take result buf.new ≡ take result (drop at image.now) }
 {
@@ -179,8 +170,7 @@ fn give(image: &[u8], at: u64, buf: &mut [u8]) -> usize
         return 0;
     }
     let count = buf.len().min(image.len() - at);
-    let given = &image[at..at + count];
-    buf[..count].copy_from_slice(given);
+    give(image, at, at + count, buf);
     count
 }
 

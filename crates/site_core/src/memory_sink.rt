@@ -4,7 +4,7 @@ ghost use Rattle.std.specs.Io.KnownBytes.{WriteAppends};
 ghost use Rattle.site_core.specs.Counts.{HasCause, Rose};
 
 use crate::Sink;
-use crate::memory_source::is_listed;
+use crate::listed::fails_by_list;
 use faim_base::{Bytes, Failed, Places};
 use std::alloc::Global;
 
@@ -43,7 +43,7 @@ impl MemSink {
         self.bytes.as_slice()
     }
 
-    /// How many writes failed because the sink found no memory. It never falls.
+    /// How many writes failed because the sink found no memory. It rises at no other write, and never falls.
     pub fn lacks(&self) -> u64
         ensures { result ≡ self.now.lacks }
     {
@@ -62,20 +62,18 @@ impl Sink for MemSink {
         ensures bytes { WriteAppends (Some self.old.bytes) (Some self.new.bytes) result piece.now }
         ensures cause { HasCause self.old.faults self.new.faults result }
 
-        // It fails at the calls that are listed, where it finds no memory, and where its count of calls is full.
+        // It fails at the calls that are listed, where its count of calls is full, and else only where it finds no
+        // memory; the count of these rises at such a call and at no other.
+        ensures listed { Contains self.old.fails (self.old.calls + 1) ⊎ (self.old.calls ≡ 2 ^ 64 - 1) → IsErr result × (self.new.lacks ≡ self.old.lacks) }
         ensures fails { IsErr result → Contains self.old.fails (self.old.calls + 1) ⊎ ((self.old.calls ≡ 2 ^ 64 - 1) ⊎ Rose self.old.lacks self.new.lacks) }
-        ensures listed { Contains self.old.fails (self.old.calls + 1) → IsErr result }
         ensures whole { IfOk result (λ n. n ≡ length piece.now) }
         ensures calls { self.new.calls ≡ min (self.old.calls + 1) (2 ^ 64 - 1) }
         ensures lacks { self.old.lacks ≤ self.new.lacks }
         ensures no_lack { OnOk result (self.new.lacks ≡ self.old.lacks) }
     {
-        if self.calls == u64::MAX || is_listed(self.fails.as_slice(), self.calls + 1) {
-            self.calls = self.calls.saturating_add(1);
-            self.faults = self.faults.saturating_add(1);
+        if fails_by_list(self.fails.as_slice(), &mut self.calls, &mut self.faults) {
             return Err(Failed);
         }
-        self.calls += 1;
         match self.bytes.extend(piece) {
             Ok(()) => Ok(piece.len()),
             Err(_) => {

@@ -6,6 +6,7 @@ ghost use Rattle.site_core.specs.Counts.{HasCause};
 ghost use Rattle.site_core.specs.Cuts.{ReadEnds};
 
 use crate::Source;
+use crate::listed::fails_by_list;
 use faim_base::{Bytes, Failed, Places};
 
 /// Bytes in memory. No read goes across a cut; apart from that a read gives as much as its buffer takes.
@@ -51,18 +52,14 @@ impl Source for MemSource {
         ensures bytes { ReadConsumes (Some (drop self.old.at self.old.bytes)) (Some (drop self.new.at self.new.bytes)) result buf.new }
         ensures cause { HasCause self.old.faults self.new.faults result }
 
-        // It fails at exactly the calls that are listed, and at none but these until its count of calls is full.
-        ensures fails { IsErr result → Contains self.old.fails (self.old.calls + 1) ⊎ (self.old.calls ≡ 2 ^ 64 - 1) }
-        ensures listed { Contains self.old.fails (self.old.calls + 1) → IsErr result }
+        // It fails at exactly the calls that are listed, and where its count of calls is full.
+        ensures fails { IsErr result ↔ (Contains self.old.fails (self.old.calls + 1) ⊎ (self.old.calls ≡ 2 ^ 64 - 1)) }
         ensures calls { self.new.calls ≡ min (self.old.calls + 1) (2 ^ 64 - 1) }
         ensures ends { OnOk result (ReadEnds self.old.cuts self.old.at (self.old.at + min (length buf.old) (length self.old.bytes - self.old.at)) self.new.at) }
     {
-        if self.calls == u64::MAX || is_listed(self.fails.as_slice(), self.calls + 1) {
-            self.calls = self.calls.saturating_add(1);
-            self.faults = self.faults.saturating_add(1);
+        if fails_by_list(self.fails.as_slice(), &mut self.calls, &mut self.faults) {
             return Err(Failed);
         }
-        self.calls += 1;
         let bytes = self.bytes.as_slice();
         let limit = self.at + buf.len().min(bytes.len() - self.at);
         let end = read_end(self.cuts.as_slice(), self.at, limit);
@@ -71,12 +68,6 @@ impl Source for MemSource {
         self.at = end;
         Ok(count)
     }
-}
-
-pub(crate) fn is_listed(numbers: &[usize], number: u64) -> bool
-    ensures { IsTrue result ↔ Contains numbers.now number }
-{
-    numbers.iter().any(|listed| *listed as u64 == number)
 }
 
 // Where a read from `at` ends.
@@ -95,7 +86,7 @@ fn read_end(cuts: &[usize], at: usize, limit: usize) -> usize
 }
 
 // Copies the bytes between two places to the front of the buffer.
-fn give(bytes: &[u8], at: usize, end: usize, buf: &mut [u8])
+pub(crate) fn give(bytes: &[u8], at: usize, end: usize, buf: &mut [u8])
     requires order { at ≤ end }
     requires within { end ≤ length bytes.now }
     requires room { end - at ≤ length buf.old }

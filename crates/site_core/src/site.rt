@@ -9,8 +9,9 @@ use faim_base::Failed;
 
 /// A disk with one image, and a line that frames are sent on.
 ///
-/// A site may tell what its calls did (docs/MODEL.md, "Stops"); one that tells goes on telling. A call answers
-/// `Failed` only where the count of its part rose: a count that is kept in 64 bits stays at its end.
+/// A site may tell what its calls did (docs/STOPS.md); one that tells goes on telling. A call answers
+/// `Failed` only where the count of its part rose: a count that is kept in 64 bits stays at its end. A site that tells
+/// also tells the one reason why a call failed.
 pub trait Site {
     /// What the site tells of itself, where it does.
     ghost told: { Self → Option Told };

@@ -35,7 +35,7 @@ pub trait StopSite: Site {
     fn sent(&self, number: u64) -> Option<&[u8]>
         ensures { IfSome (Self.told self.now) (λ site. MatchOption result ((number ≡ 0) ⊎ (length (sent site.log) < number)) (λ frame. (1 ≤ number) × (slice_get (sent site.log) (number - 1) ≡ Some frame.now))) };
 
-    /// How many calls failed because the site itself found no memory. It never falls.
+    /// How many calls found no memory in the site itself, and failed. It rises at no other call, and never falls.
     fn lacks(&self) -> u64
         ensures { IfSome (Self.told self.now) (λ site. result ≡ site.lacks) };
 

@@ -53,7 +53,7 @@ fn a_sink_keeps_what_was_written_and_fails_where_it_is_told(rt: HostRuntime) {
     assert_eq!(rt; sink.lacks(), 0);
 }
 
-// Three bytes are stable; two more stand behind a gap, and one is written over as the site stops.
+// Three bytes are stable; two more stand after a gap, and one is written over as the site stops.
 #[test]
 fn a_stop_leaves_the_image_that_the_tear_chooses(rt: HostRuntime) {
     let alloc = rt.alloc();

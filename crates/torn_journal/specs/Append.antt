@@ -1,6 +1,6 @@
 -- The device calls of an append, and what a stop at each moment of it may leave.
 use Rattle.std.specs.Prelude.{◌≡◌, ◌⊎◌, ℕ, ◌+◌, ◌-◌, ◌≤◌, List, [], ◌∷◌, ◌++◌, length, true, false, Result, Ok, Err, OnOk}
-use Rattle.site_core.specs.Log.{Act, reads, sent, Left, NothingPending}
+use Rattle.site_core.specs.Log.{Act, reads, sent, okays, LeavesImage, Left, NothingPending}
 use Rattle.site_core.specs.Log.Act.{Wrote, WriteFailed, Synced, SyncFailed}
 use Rattle.site_core.specs.Told.{Told, Ran}
 use Rattle.torn_journal.specs.declared.faults.AppendFault.{AppendFault}
@@ -18,7 +18,7 @@ pub data IsBrokenOff (at : ℕ) (bytes : List ℕ) : List Act → Type 0 where
   written : IsBrokenOff at bytes (Wrote at bytes ∷ [])
   unsynced : IsBrokenOff at bytes (SyncFailed ∷ Wrote at bytes ∷ [])
 
--- the record goes behind the tail gate, and then the gate is opened
+-- the record goes after the tail gate, and then the gate is opened
 abbrev pub IsAppend : ℕ → List ℕ → List Act → Type 0
 IsAppend tail framed acts = acts ≡ secured (tail - 1) (open_gate ∷ []) ++ secured tail framed
 
@@ -33,7 +33,7 @@ abbrev pub Adds : {E : Type 0} → ℕ → List ℕ → Result (Unit {0}) E → 
 Adds tail framed (Ok done) old new = Ran true (IsAppend tail framed) old new
 Adds tail framed (Err fault) old new = Ran false (IsAppendBrokenOff tail framed) old new
 
--- at Ok four calls; at a fault of the site none behind the one that failed; a full journal makes none
+-- at Ok four calls; at a fault of the site none after the one that failed; a full journal makes none
 abbrev pub AppendCalls : ℕ → List ℕ → Result (Unit {0}) AppendFault → Told → Told → Type 0
 AppendCalls tail framed (Ok done) old new = Ran true (IsAppend tail framed) old new
 AppendCalls tail framed (Err SiteFault) old new = Ran false (IsAppendBrokenOff tail framed) old new
@@ -54,3 +54,16 @@ pub record KeepsOrAdds {T E : Type 0} (result : Result T E) (payloads : List (Li
 abbrev pub Appends : {T E : Type 0} → Result T E → ℕ → ℕ → List ℕ → Told → Told → Type 0
 Appends result tail next payload old new =
     (payloads : List (List ℕ)) → NothingPending old.log → IsJournal (reads old.log) payloads → tail ≡ tail_of payloads → KeepsOrAdds result payloads payload next old new
+
+-- a stop at this call of an append, counted from 1: those before it went through, and it was the last that was made
+pub record IsStoppedAt (call tail : ℕ) (framed : List ℕ) (old new : Told) : Type 0 where
+  pub acts : List Act
+  pub grew : new.log ≡ acts ++ old.log
+  pub are : IsAppendBrokenOff tail framed acts
+  pub through : call ≡ okays acts + 1
+  pub most : call ≤ 4
+  pub calls : new.calls ≡ old.calls + call
+
+-- a stop now may leave a journal of these payloads
+abbrev pub MayStand : List Act → List (List ℕ) → Type 0
+MayStand log payloads = (image : List ℕ) × LeavesImage log image × IsJournal image payloads

@@ -6,11 +6,11 @@ use Rattle.site_core.specs.Told.{Told, Ran}
 use Rattle.torn_journal.specs.declared.faults.CreateFault.{CreateFault}
 use Rattle.torn_journal.specs.declared.faults.CreateFault.TheVariants.{SiteFault, NotEmpty, NoMemory}
 use Rattle.torn_journal.specs.Append.{secured, IsBrokenOff}
-use Rattle.torn_journal.specs.Journal.{front_of, tail_of, IsJournal}
+use Rattle.torn_journal.specs.Journal.{closed_gate, front_of, tail_of, IsJournal}
 
 -- the header, the one record, and a closed gate
 abbrev pub first_image : List ℕ → List ℕ
-first_image opening = front_of (opening ∷ []) ++ 0 ∷ []
+first_image opening = front_of (opening ∷ []) ++ closed_gate ∷ []
 
 -- the size was asked for, and where it was 0 a write or a sync failed
 abbrev pub IsCreateBrokenOff : List ℕ → ℕ → List Act → Type 0

@@ -1,31 +1,33 @@
-// A payload is written behind the tail gate and made stable, and then the gate is opened.
-ghost use Rattle.std.specs.Prelude.{◌≡◌, ◌-◌, ◌+◌, ◌^◌, ◌<◌, ◌≤◌, ℕ, length, OnOk, OnErr, ◌↔◌};
+// A payload is written after the tail gate and made stable, and then the gate is opened.
+ghost use Rattle.std.specs.Prelude.{◌≡◌, ◌-◌, ◌+◌, ◌<◌, ◌≤◌, ℕ, length, OnOk, OnErr, ◌↔◌};
 ghost use Rattle.site_core.specs.Counts.{Rose, HasCause};
 ghost use Rattle.site_core.specs.Told.{Goes, HasReason};
 ghost use Rattle.site_core.specs.Told.Part.{Disk};
 ghost use Rattle.torn_journal.specs.Append.{Secures, Adds, AppendCalls, Appends};
 ghost use Rattle.torn_journal.specs.Journal.{IsFramed, payload_of};
+ghost use Rattle.torn_journal.specs.Limits.{greatest_tail};
 
-use crate::journal::MOST;
+use crate::journal::OPEN_GATE;
+use crate::limits::GREATEST_TAIL;
 use crate::{AppendFault, Journal};
 use faim_base::Failed;
 use site_core::Site;
 
-pub(crate) const OPEN: u8 = 0xA5;
-
 impl Journal {
-    /// Adds a payload, which `frame_payload` framed. After `Ok` each stop leaves it; before, a stop leaves the journal
-    /// as it was or with the payload. It takes no memory.
+    /// Adds a payload, which `frame_payload` framed, by four device calls (docs/FORMATS.md, "Journals"). After `Ok` each
+    /// stop leaves it; before, a stop leaves the journal as it was or with the payload. It takes no memory.
     ///
-    /// `JournalFull` comes exactly where the tail and the length of what is framed pass 1,073,741,824 together.
+    /// `SiteFault` comes after the device call that failed, and leaves the journal as it was or with the payload: it is
+    /// resumed before it is used again. `JournalFull` comes exactly where the tail and the length of what is framed
+    /// pass 1,073,741,824 together, and no device call was made then.
     pub fn append<S: Site>(&mut self, site: &mut S, framed: &[u8]) -> Result<(), AppendFault>
         requires { IsFramed framed.now }
 
         ensures moments { Goes (S.told site.old) (S.told site.new) (Appends result self.old self.new (payload_of framed.now)) }
         ensures calls { Goes (S.told site.old) (S.told site.new) (AppendCalls self.old framed.now result) }
-        ensures full { (2 ^ 30 < self.old + length framed.now) ↔ (result ≡ Err (AppendFault.JournalFull self.old (length framed.now))) }
+        ensures full { (greatest_tail < self.old + length framed.now) ↔ (result ≡ Err (AppendFault.JournalFull self.old (length framed.now))) }
         ensures full_only { (tail need : ℕ) → result ≡ Err (AppendFault.JournalFull tail need) → (tail ≡ self.old) × (need ≡ length framed.now) }
-        ensures untouched { 2 ^ 30 < self.old + length framed.now → site.new ≡ site.old }
+        ensures untouched { greatest_tail < self.old + length framed.now → site.new ≡ site.old }
         ensures tail { OnOk result (self.new ≡ self.old + length framed.now) }
         ensures same { OnErr result (self.new ≡ self.old) }
         ensures later { S.disk_faults site.old ≤ S.disk_faults site.new }
@@ -35,7 +37,7 @@ impl Journal {
         ensures line { S.line_faults site.new ≡ S.line_faults site.old }
     {
         let need = framed.len() as u64;
-        if need > MOST - self.tail {
+        if need > GREATEST_TAIL - self.tail {
             return Err(AppendFault::JournalFull {
                 tail: self.tail,
                 need,
@@ -47,7 +49,7 @@ impl Journal {
     }
 }
 
-// Writes the record behind the gate, and then opens the gate.
+// The record is stable before its gate is opened, so that no stop leaves an open gate over a part of it.
 fn add<S: Site>(site: &mut S, tail: u64, framed: &[u8]) -> Result<(), Failed>
     requires { 1 ≤ tail }
     ensures told { Goes (S.told site.old) (S.told site.new) (Adds tail framed.now result) }
@@ -56,10 +58,9 @@ fn add<S: Site>(site: &mut S, tail: u64, framed: &[u8]) -> Result<(), Failed>
     ensures line { S.line_faults site.new ≡ S.line_faults site.old }
 {
     secure(site, tail, framed)?;
-    secure(site, tail - 1, &[OPEN])
+    secure(site, tail - 1, &[OPEN_GATE])
 }
 
-// Writes the bytes, and makes them stable.
 pub(crate) fn secure<S: Site>(site: &mut S, at: u64, bytes: &[u8]) -> Result<(), Failed>
     ensures told { Goes (S.told site.old) (S.told site.new) (Secures at bytes.now result) }
     ensures reason { OnErr result (Goes (S.told site.old) (S.told site.new) (HasReason Disk)) }

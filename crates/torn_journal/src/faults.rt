@@ -1,4 +1,4 @@
-// Why a journal can't be made, resumed or added to.
+// Why a journal can't be made, resumed or added to. The text of each fault is the name of its variant.
 ghost use Rattle.std.specs.Prelude.{◌≡◌};
 ghost use Rattle.torn_journal.specs.declared.faults.AppendFault.TheVariants as append_faults;
 ghost use Rattle.torn_journal.specs.declared.faults.CreateFault.TheVariants as create_faults;
@@ -12,13 +12,13 @@ use thiserror::Error;
 #[derive(Clone, Copy, Debug, Drop, PartialEq, Eq, Error)]
 pub enum CreateFault {
     /// A call of the disk failed. The image may be anything.
-    #[error("disk fault")]
+    #[error("SiteFault")]
     SiteFault,
     /// The image isn't empty. It stays as it is.
-    #[error("the disk is not empty")]
+    #[error("NotEmpty")]
     NotEmpty,
     /// Memory ran out. No device call was made.
-    #[error("no memory")]
+    #[error("NoMemory")]
     NoMemory,
 }
 
@@ -26,16 +26,16 @@ pub enum CreateFault {
 #[derive(Clone, Copy, Debug, Drop, PartialEq, Eq, Error)]
 pub enum ResumeFault {
     /// A call of the disk failed.
-    #[error("disk fault")]
+    #[error("SiteFault")]
     SiteFault,
     /// The first 16 bytes aren't the header of a journal.
-    #[error("no journal")]
+    #[error("NoHeader")]
     NoHeader,
     /// The place of the gate, from 0, at which the image isn't a journal any more.
-    #[error("damaged at {place}")]
+    #[error("Damaged")]
     Damaged { place: u64 },
     /// Memory ran out. The image is as before.
-    #[error("no memory")]
+    #[error("NoMemory")]
     NoMemory,
 }
 
@@ -43,10 +43,10 @@ pub enum ResumeFault {
 #[derive(Clone, Copy, Debug, Drop, PartialEq, Eq, Error)]
 pub enum AppendFault {
     /// A call of the disk failed. The payload may be there or not: the journal is resumed before it is used again.
-    #[error("disk fault")]
+    #[error("SiteFault")]
     SiteFault,
     /// The journal would pass 1,073,741,824 bytes. No device call was made.
-    #[error("journal full at {tail} needing {need}")]
+    #[error("JournalFull")]
     JournalFull { tail: u64, need: u64 },
 }
 

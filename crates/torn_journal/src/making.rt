@@ -1,4 +1,4 @@
-// The first image of a journal: its header, the opening behind an open gate, and a closed gate.
+// The first image of a journal: its header, the opening after an open gate, and a closed gate.
 ghost use Rattle.std.specs.Prelude.{◌≡◌, ◌≤◌, ◌∷◌, [], IfOk, OnOk};
 ghost use Rattle.site_core.specs.Counts.{Rose};
 ghost use Rattle.site_core.specs.Told.{Goes, HasReason};
@@ -6,17 +6,18 @@ ghost use Rattle.site_core.specs.Told.Part.{Disk};
 ghost use Rattle.torn_journal.specs.Create.{first_image, Creates};
 ghost use Rattle.torn_journal.specs.Journal.{IsPayload, tail_of};
 
-use crate::append::{OPEN, secure};
+use crate::append::secure;
+use crate::journal::{HEADER, OPEN_GATE};
 use crate::{CreateFault, Journal, frame_payload};
 use faim_base::NoMemory;
 use site_core::Site;
 use std::alloc::Global;
 
-pub(crate) const HEADER: [u8; 16] = *b"FAIMJRN1\0\0\0\0\0\0\0\0";
-
-/// Makes a journal of one payload, of 1 to 131,072 bytes, on an empty disk. After `Ok` each stop leaves it.
+/// Makes a journal of one payload, of 1 to 131,072 bytes, on an empty disk (docs/FORMATS.md, "Journals"). After `Ok`
+/// each stop leaves it. At most three device calls are made: the size, one write, a sync.
 ///
-/// `NotEmpty` comes exactly where the size isn't 0. At most three device calls are made: the size, one write, a sync.
+/// `NotEmpty` comes exactly where the size isn't 0, and leaves the image as it is. `NoMemory` comes before any device
+/// call. After `SiteFault` the image may be anything that the write leaves when it is cut short.
 pub fn create<S: Site>(alloc: Global, site: &mut S, opening: &[u8]) -> Result<Journal, CreateFault>
     requires { IsPayload opening.now }
 
@@ -46,7 +47,7 @@ fn image_of(alloc: Global, opening: &[u8]) -> Result<Vec<u8>, NoMemory>
 {
     let mut image = Vec::new(alloc);
     image.extend_from_slice(&HEADER)?;
-    image.push(OPEN)?;
+    image.push(OPEN_GATE)?;
     frame_payload(opening, &mut image)?;
     Ok(image)
 }

@@ -1,11 +1,14 @@
 // What no clause says of a journal: its bytes, and each answer once.
 ghost use Rattle.std.specs.Prelude.{◌≡◌, ◌≤◌, map, length};
+ghost use Rattle.torn_journal.specs.Journal.{IsPayload};
 
 use crate::{
-    AppendFault, CreateFault, ResumeFault, Visit, VisitFault, create, frame_payload, resume,
+    AppendFault, CreateFault, Journal, ResumeFault, Visit, VisitFault, create, frame_payload,
+    resume,
 };
 use faim_base::Places;
 use site_core::{MemSite, Site, StopSite};
+use std::alloc::Global;
 use std::test::Fail;
 
 /// Keeps the length of each payload, and takes none that is longer than 1,000 bytes.
@@ -30,6 +33,22 @@ impl Visit for Lengths {
     }
 }
 
+// What `append` answers to a payload, or `None` where memory ran out.
+fn added(
+    alloc: Global,
+    site: &mut MemSite,
+    journal: &mut Journal,
+    payload: &[u8],
+) -> Option<Result<(), AppendFault>>
+    requires { IsPayload payload.now }
+{
+    let mut framed = Vec::new(alloc);
+    match frame_payload(payload, &mut framed) {
+        Ok(()) => Some(journal.append(site, &framed)),
+        Err(_) => None,
+    }
+}
+
 #[test]
 fn a_journal_grows_by_what_is_framed_and_is_read_back(rt: HostRuntime) -> Result<(), Fail> {
     let alloc = rt.alloc();
@@ -44,11 +63,7 @@ fn a_journal_grows_by_what_is_framed_and_is_read_back(rt: HostRuntime) -> Result
     match resumed {
         Ok(mut journal) => {
             assert!(rt; journal.tail() == 100);
-            let mut framed = Vec::new(alloc);
-            match frame_payload(&[b'P'; 202], &mut framed) {
-                Ok(()) => assert!(rt; journal.append(&mut site, &framed) == Ok(())),
-                Err(_) => assert!(rt; false),
-            }
+            assert!(rt; added(alloc, &mut site, &mut journal, &[b'P'; 202]) == Some(Ok(())));
             assert!(rt; journal.tail() == 307);
         }
         Err(_) => assert!(rt; false),
@@ -85,16 +100,10 @@ fn a_stop_in_an_append_keeps_the_payload_only_with_its_gate(rt: HostRuntime) -> 
         let mut site = MemSite::new(alloc, Places::new(alloc));
         match create(alloc, &mut site, &[7]) {
             Ok(mut journal) => {
-                let mut framed = Vec::new(alloc);
-                match frame_payload(&[8; 3], &mut framed) {
-                    Ok(()) => {
-                        assert!(rt; !site.stopped());
-                        site.arm(call, tear);
-                        let added = journal.append(&mut site, &framed);
-                        assert!(rt; added == Err(AppendFault::SiteFault), "at {call}");
-                    }
-                    Err(_) => assert!(rt; false),
-                }
+                assert!(rt; !site.stopped());
+                site.arm(call, tear);
+                let answer = added(alloc, &mut site, &mut journal, &[8; 3]);
+                assert!(rt; answer == Some(Err(AppendFault::SiteFault)), "at {call}");
             }
             Err(_) => assert!(rt; false),
         }
@@ -141,6 +150,31 @@ fn damage_is_found_at_its_gate(rt: HostRuntime) -> Result<(), Fail> {
     match resume(alloc, &mut site, &mut visit) {
         Err(ResumeFault::NoHeader) => {}
         _ => assert!(rt; false),
+    }
+    Ok(())
+}
+
+#[test]
+fn the_text_of_a_fault_is_its_name(rt: HostRuntime) -> Result<(), Fail> {
+    let alloc = rt.alloc();
+    let full = AppendFault::JournalFull { tail: 17, need: 6 };
+    for (text, name) in [
+        (CreateFault::SiteFault.to_string(alloc)?, "SiteFault"),
+        (CreateFault::NotEmpty.to_string(alloc)?, "NotEmpty"),
+        (CreateFault::NoMemory.to_string(alloc)?, "NoMemory"),
+        (ResumeFault::SiteFault.to_string(alloc)?, "SiteFault"),
+        (ResumeFault::NoHeader.to_string(alloc)?, "NoHeader"),
+        (
+            ResumeFault::Damaged { place: 16 }.to_string(alloc)?,
+            "Damaged",
+        ),
+        (ResumeFault::NoMemory.to_string(alloc)?, "NoMemory"),
+        (AppendFault::SiteFault.to_string(alloc)?, "SiteFault"),
+        (full.to_string(alloc)?, "JournalFull"),
+        (VisitFault::Bad.to_string(alloc)?, "Bad"),
+        (VisitFault::NoMemory.to_string(alloc)?, "NoMemory"),
+    ] {
+        assert!(rt; text.as_str() == name, "{name}");
     }
     Ok(())
 }

@@ -105,16 +105,26 @@ fn a_message_tells_its_parts(rt: HostRuntime) -> Result<(), Fail> {
 
 #[test]
 fn a_new_mark_changes_its_byte_alone(rt: HostRuntime) -> Result<(), Fail> {
-    let mut message = decode(rt.alloc(), PLAIN, Form::Input)
-        .ok()
-        .ok_or("a submission")?;
-    message.set_mark(b'P');
-    let mut out = Vec::new(rt.alloc());
-    encode(&message, &mut out).ok().ok_or("memory")?;
-    assert_eq!(rt; message.mark(), b'P');
-    let marked: &[u8] =
-        b"{1500}30USERREQ1TP{1510}1000{1520}20240102BANKA001000001{2000}000000150000{3100}021000021ALPHA BANK*{3400}121042882BETA BANK*{3600}BTR";
-    assert!(rt; out.as_slice() == marked);
+    let cases: [(Form, &[u8], &[u8]); 2] = [
+        (
+            Form::Input,
+            PLAIN,
+            b"{1500}30USERREQ1TP{1510}1000{1520}20240102BANKA001000001{2000}000000150000{3100}021000021ALPHA BANK*{3400}121042882BETA BANK*{3600}BTR",
+        ),
+        (
+            Form::Ack,
+            b"{1100}30T 3{1110}01020930FAIM{1130}E001TEXT IS NOT A MESSAGE*",
+            b"{1100}30TP3{1110}01020930FAIM{1130}E001TEXT IS NOT A MESSAGE*",
+        ),
+    ];
+    for (form, bytes, marked) in cases {
+        let mut message = decode(rt.alloc(), bytes, form).ok().ok_or("a message")?;
+        message.set_mark(b'P');
+        let mut out = Vec::new(rt.alloc());
+        encode(&message, &mut out).ok().ok_or("memory")?;
+        assert_eq!(rt; message.mark(), b'P');
+        assert!(rt; out.as_slice() == marked);
+    }
     Ok(())
 }
 
@@ -137,7 +147,7 @@ fn a_submission_gives_its_head(rt: HostRuntime) -> Result<(), Fail> {
 }
 
 #[test]
-fn a_draft_gets_its_identifier_behind_its_type(rt: HostRuntime) -> Result<(), Fail> {
+fn a_draft_gets_its_identifier_after_its_type(rt: HostRuntime) -> Result<(), Fail> {
     let cases: [(&[u8], &[u8]); 2] = [
         (
             b"{1500}30USERREQ1T {1510}1000{2000}000000150000{3100}021000021ALPHA BANK*{3400}121042882BETA BANK*{3600}BTR",

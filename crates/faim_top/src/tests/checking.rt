@@ -8,11 +8,11 @@ use std::test::Fail;
 const JOINED: &[u8] =
     b"{1500}30USERREQ1T {1510}1000{1520}20240102BANKA001000001{2000}000000150000{3100}021000021ALPHA BANK*{3400}121042882BETA BANK*{3600}BTR";
 
-// The same message with LF behind each tag, the names filled up with blanks, and a last star element without its star.
+// The same message with LF after each tag, the names filled up with blanks, and a last star element without its star.
 const IN_LINES: &[u8] =
     b"{1500}30USERREQ1T \n{1510}1000\n{1520}20240102BANKA001000001\n{2000}000000150000\n{3100}021000021ALPHA BANK        *\n{3400}121042882BETA BANK         *\n{3600}BTR   \n";
 
-// A payment of a customer, with CR and LF between its tags and nothing behind the last.
+// A payment of a customer, with CR and LF between its tags and nothing after the last.
 const OF_CUSTOMER: &[u8] =
     b"{1500}30INVOICE1P \r\n{1510}1000\r\n{1520}20240102BANKA001000002\r\n{2000}000000025000\r\n{3100}021000021ALPHA BANK*\r\n{3400}121042882BETA BANK*\r\n{3600}CTR\r\n{4200}D123456789*JOHN DOE*1 MAIN ST*ANYTOWN*\r\n{4320}REF 2024-1*\r\n{5000}D987654321*ACME CORP*\r\n{6000}INVOICE 1*INVOICE 2*INVOICE 3*THANK YOU*";
 
@@ -32,9 +32,9 @@ fn checked(alloc: Global, input: &[u8], cuts: &[usize]) -> Result<Ran, NoMemory>
     run_over(alloc, &["check"], input, &streams)
 }
 
-fn joined(alloc: Global, front: &[u8], behind: &[u8]) -> Result<Bytes, NoMemory> {
+fn joined(alloc: Global, front: &[u8], after: &[u8]) -> Result<Bytes, NoMemory> {
     let mut all = bytes(alloc, front)?;
-    all.extend(behind)?;
+    all.extend(after)?;
     Ok(all)
 }
 

@@ -1,11 +1,12 @@
-use super::{ALPHA, BETA, FIRST, HOST, Streams, run_over, text_of};
+use super::{ALPHA, BETA, FIRST, HOST, Streams, owned, run_over, text_of};
 use crate::{
     Balances, Closing, Counts, Outcome, Reason, Script, ScriptFault, Status, Why, print_closing,
-    print_outcome, read_script,
+    print_outcome, read_script, words_after_name,
 };
 use faim_base::{Aba, CycleDate, Endpoint, Places, Reject};
 use faim_model::HostOutcome;
 use host_ledger::Config;
+use std::io::ErrorKind;
 use std::test::Fail;
 
 #[test]
@@ -80,21 +81,45 @@ fn cuts_of_reads_change_nothing(rt: HostRuntime) -> Result<(), Fail> {
 }
 
 #[test]
-fn statuses_have_codes(rt: HostRuntime) {
+fn a_shell_is_told_how_a_run_ended(rt: HostRuntime) {
     let fault = ScriptFault {
         line: 1,
         why: Why::Ended,
     };
-    for (status, code) in [
-        (Status::Done, 0),
-        (Status::Usage, 2),
-        (Status::Refused(Reason::Script(fault)), 3),
-        (Status::NoMemory, 4),
-        (Status::ReadFault, 5),
-        (Status::WriteFault, 6),
+    for (status, code, line) in [
+        (Status::Done, 0, None),
+        (
+            Status::without_words(ErrorKind::InvalidData),
+            2,
+            Some("faim: usage"),
+        ),
+        (
+            Status::Refused(Reason::Script(fault)),
+            3,
+            Some("faim: refused"),
+        ),
+        (
+            Status::without_words(ErrorKind::OutOfMemory),
+            4,
+            Some("faim: no memory"),
+        ),
+        (Status::ReadFault, 5, Some("faim: read fault")),
+        (Status::WriteFault, 6, Some("faim: write fault")),
     ] {
         assert_eq!(rt; status.code(), code);
+        assert_eq!(rt; status.error_line(), line);
     }
+}
+
+#[test]
+fn the_name_of_the_program_is_no_word(rt: HostRuntime) -> Result<(), Fail> {
+    let all = owned(rt.alloc(), &["faim", "check"])?;
+    match words_after_name(all.as_slice()) {
+        [word] => assert_eq!(rt; word.as_str(), "check"),
+        _ => assert!(rt; false),
+    }
+    assert!(rt; words_after_name(&[]).is_empty());
+    Ok(())
 }
 
 #[test]

@@ -2,32 +2,7 @@ use super::{ALPHA, BETA, FIRST, HOST, SECOND, THIRD, add_lines, replayed};
 use crate::Status;
 use faim_base::{Bytes, NoMemory};
 use std::alloc::Global;
-use std::process::Abort;
 use std::test::Fail;
-
-// A script of two accounts, and its report.
-#[derive(Clone, Copy)]
-struct Case {
-    what: &'static str,
-    accounts: [&'static str; 2],
-    events: &'static [&'static str],
-    report: &'static [&'static str],
-}
-
-fn script_of(alloc: Global, accounts: &[&str], events: &[&str]) -> Result<Bytes, NoMemory> {
-    let mut text = Bytes::new(alloc);
-    add_lines(&mut text, &[HOST])?;
-    add_lines(&mut text, accounts)?;
-    add_lines(&mut text, &["begin"])?;
-    add_lines(&mut text, events)?;
-    Ok(text)
-}
-
-fn report_of(alloc: Global, lines: &[&str]) -> Result<Bytes, NoMemory> {
-    let mut text = Bytes::new(alloc);
-    add_lines(&mut text, lines)?;
-    Ok(text)
-}
 
 #[test]
 fn a_message_is_posted(rt: HostRuntime) -> Result<(), Fail> {
@@ -41,8 +16,19 @@ fn a_message_is_posted(rt: HostRuntime) -> Result<(), Fail> {
     Ok(())
 }
 
-// The same message again, and another one under its number.
-const REPEATS: [Case; 4] = [
+// Two accounts, what comes from their endpoints, and what is reported of it: a line for each event, the two balances in
+// cents, and how many outputs the two endpoints have.
+#[derive(Clone, Copy)]
+struct Case {
+    what: &'static str,
+    accounts: [&'static str; 2],
+    events: &'static [&'static str],
+    outcomes: &'static [&'static str],
+    balances: [i64; 2],
+    outputs: [u64; 2],
+}
+
+const CASES: [Case; 17] = [
     Case {
         what: "repeats with the mark and without it",
         accounts: [ALPHA, BETA],
@@ -51,17 +37,13 @@ const REPEATS: [Case; 4] = [
             "submit BANKA001 {1500}30USERREQ1TP{1510}1000{1520}20240102BANKA001000001{2000}000000150000{3100}021000021ALPHA BANK*{3400}121042882BETA BANK*{3600}BTR",
             FIRST,
         ],
-        report: &[
+        outcomes: &[
             "1 taken 20240102BANKB001000001",
             "2 again taken 20240102BANKB001000001",
             "3 again taken 20240102BANKB001000001",
-            "cycle 20240102",
-            "balance 021000021 850000",
-            "balance 121042882 150000",
-            "outputs BANKA001 0",
-            "outputs BANKB001 1",
-            "end",
         ],
+        balances: [850_000, 150_000],
+        outputs: [0, 1],
     },
     Case {
         what: "a first submission with the mark",
@@ -70,16 +52,12 @@ const REPEATS: [Case; 4] = [
             "submit BANKA001 {1500}30USERREQ1TP{1510}1000{1520}20240102BANKA001000001{2000}000000150000{3100}021000021ALPHA BANK*{3400}121042882BETA BANK*{3600}BTR",
             FIRST,
         ],
-        report: &[
+        outcomes: &[
             "1 taken 20240102BANKB001000001",
             "2 again taken 20240102BANKB001000001",
-            "cycle 20240102",
-            "balance 021000021 850000",
-            "balance 121042882 150000",
-            "outputs BANKA001 0",
-            "outputs BANKB001 1",
-            "end",
         ],
+        balances: [850_000, 150_000],
+        outputs: [0, 1],
     },
     Case {
         what: "another amount between repeats",
@@ -89,17 +67,13 @@ const REPEATS: [Case; 4] = [
             "submit BANKA001 {1500}30USERREQ1T {1510}1000{1520}20240102BANKA001000001{2000}000000150001{3100}021000021ALPHA BANK*{3400}121042882BETA BANK*{3600}BTR",
             FIRST,
         ],
-        report: &[
+        outcomes: &[
             "1 taken 20240102BANKB001000001",
             "2 turned X201",
             "3 again taken 20240102BANKB001000001",
-            "cycle 20240102",
-            "balance 021000021 850000",
-            "balance 121042882 150000",
-            "outputs BANKA001 0",
-            "outputs BANKB001 1",
-            "end",
         ],
+        balances: [850_000, 150_000],
+        outputs: [0, 1],
     },
     Case {
         what: "a refusal",
@@ -108,62 +82,33 @@ const REPEATS: [Case; 4] = [
             "submit BANKA001 {1500}30USERREQ1T {1510}1000{1520}20240103BANKA001000001{2000}000000150000{3100}021000021ALPHA BANK*{3400}121042882BETA BANK*{3600}BTR",
             "submit BANKA001 {1500}30USERREQ1T {1510}1000{1520}20240103BANKA001000001{2000}000000150000{3100}021000021ALPHA BANK*{3400}121042882BETA BANK*{3600}BTR",
         ],
-        report: &[
-            "1 refused H101",
-            "2 again refused H101",
-            "cycle 20240102",
-            "balance 021000021 1000000",
-            "balance 121042882 0",
-            "outputs BANKA001 0",
-            "outputs BANKB001 0",
-            "end",
-        ],
+        outcomes: &["1 refused H101", "2 again refused H101"],
+        balances: [1_000_000, 0],
+        outputs: [0, 0],
     },
-];
-
-// Balances at their floors.
-const FLOORS: [Case; 6] = [
     Case {
         what: "all of the balance",
         accounts: ["account 021000021 BANKA001 150000 0", BETA],
         events: &[FIRST],
-        report: &[
-            "1 taken 20240102BANKB001000001",
-            "cycle 20240102",
-            "balance 021000021 0",
-            "balance 121042882 150000",
-            "outputs BANKA001 0",
-            "outputs BANKB001 1",
-            "end",
-        ],
+        outcomes: &["1 taken 20240102BANKB001000001"],
+        balances: [0, 150_000],
+        outputs: [0, 1],
     },
     Case {
         what: "a cent too little",
         accounts: ["account 021000021 BANKA001 149999 0", BETA],
         events: &[FIRST],
-        report: &[
-            "1 refused F401",
-            "cycle 20240102",
-            "balance 021000021 149999",
-            "balance 121042882 0",
-            "outputs BANKA001 0",
-            "outputs BANKB001 0",
-            "end",
-        ],
+        outcomes: &["1 refused F401"],
+        balances: [149_999, 0],
+        outputs: [0, 0],
     },
     Case {
         what: "down to a floor below zero",
         accounts: ["account 021000021 BANKA001 0 -150000", BETA],
         events: &[FIRST],
-        report: &[
-            "1 taken 20240102BANKB001000001",
-            "cycle 20240102",
-            "balance 021000021 -150000",
-            "balance 121042882 150000",
-            "outputs BANKA001 0",
-            "outputs BANKB001 1",
-            "end",
-        ],
+        outcomes: &["1 taken 20240102BANKB001000001"],
+        balances: [-150_000, 150_000],
+        outputs: [0, 1],
     },
     Case {
         what: "to the sender itself",
@@ -171,15 +116,9 @@ const FLOORS: [Case; 6] = [
         events: &[
             "submit BANKA001 {1500}30USERREQ1T {1510}1000{1520}20240102BANKA001000001{2000}000000150000{3100}021000021ALPHA BANK*{3400}021000021BETA BANK*{3600}BTR",
         ],
-        report: &[
-            "1 taken 20240102BANKA001000001",
-            "cycle 20240102",
-            "balance 021000021 150000",
-            "balance 121042882 0",
-            "outputs BANKA001 1",
-            "outputs BANKB001 0",
-            "end",
-        ],
+        outcomes: &["1 taken 20240102BANKA001000001"],
+        balances: [150_000, 0],
+        outputs: [1, 0],
     },
     Case {
         what: "the largest amount",
@@ -187,15 +126,9 @@ const FLOORS: [Case; 6] = [
         events: &[
             "submit BANKA001 {1500}30USERREQ1T {1510}1000{1520}20240102BANKA001000001{2000}999999999999{3100}021000021ALPHA BANK*{3400}121042882BETA BANK*{3600}BTR",
         ],
-        report: &[
-            "1 taken 20240102BANKB001000001",
-            "cycle 20240102",
-            "balance 021000021 0",
-            "balance 121042882 999999999999",
-            "outputs BANKA001 0",
-            "outputs BANKB001 1",
-            "end",
-        ],
+        outcomes: &["1 taken 20240102BANKB001000001"],
+        balances: [0, 999_999_999_999],
+        outputs: [0, 1],
     },
     Case {
         what: "the lowest balances that a script may have",
@@ -204,19 +137,10 @@ const FLOORS: [Case; 6] = [
             "account 121042882 BANKB001 -1 999999999999",
         ],
         events: &[],
-        report: &[
-            "cycle 20240102",
-            "balance 021000021 -999999999999",
-            "balance 121042882 -1",
-            "outputs BANKA001 0",
-            "outputs BANKB001 0",
-            "end",
-        ],
+        outcomes: &[],
+        balances: [-999_999_999_999, -1],
+        outputs: [0, 0],
     },
-];
-
-// Texts that post nothing.
-const OTHER_TEXTS: [Case; 4] = [
     Case {
         what: "other lines and other words",
         accounts: [ALPHA, BETA],
@@ -226,32 +150,22 @@ const OTHER_TEXTS: [Case; 4] = [
             "submit BANKB001 {1500}30USERREQ1T {1510}1000{1520}20240102BANKB001000001{2000}000000150000{3100}021000021ALPHA BANK*{3400}121042882BETA BANK*{3600}BTR",
             "retrieve BANKB001 20240102 000001",
         ],
-        report: &[
+        outcomes: &[
             "1 turned H102",
             "2 turned E001",
             "3 refused E161",
             "4 retrieved 0",
-            "cycle 20240102",
-            "balance 021000021 1000000",
-            "balance 121042882 0",
-            "outputs BANKA001 0",
-            "outputs BANKB001 0",
-            "end",
         ],
+        balances: [1_000_000, 0],
+        outputs: [0, 0],
     },
     Case {
         what: "an empty text",
         accounts: [ALPHA, BETA],
         events: &["submit BANKA001 "],
-        report: &[
-            "1 turned E001",
-            "cycle 20240102",
-            "balance 021000021 1000000",
-            "balance 121042882 0",
-            "outputs BANKA001 0",
-            "outputs BANKB001 0",
-            "end",
-        ],
+        outcomes: &["1 turned E001"],
+        balances: [1_000_000, 0],
+        outputs: [0, 0],
     },
     Case {
         what: "a receiver without an account",
@@ -259,15 +173,9 @@ const OTHER_TEXTS: [Case; 4] = [
         events: &[
             "submit BANKA001 {1500}30USERREQ1T {1510}1000{1520}20240102BANKA001000001{2000}000000150000{3100}021000021ALPHA BANK*{3400}231380104BETA BANK*{3600}BTR",
         ],
-        report: &[
-            "1 refused E162",
-            "cycle 20240102",
-            "balance 021000021 1000000",
-            "balance 121042882 0",
-            "outputs BANKA001 0",
-            "outputs BANKB001 0",
-            "end",
-        ],
+        outcomes: &["1 refused E162"],
+        balances: [1_000_000, 0],
+        outputs: [0, 0],
     },
     Case {
         what: "a date that is none",
@@ -275,20 +183,10 @@ const OTHER_TEXTS: [Case; 4] = [
         events: &[
             "submit BANKA001 {1500}30USERREQ1T {1510}1000{1520}20240230BANKA001000001{2000}000000150000{3100}021000021ALPHA BANK*{3400}121042882BETA BANK*{3600}BTR",
         ],
-        report: &[
-            "1 turned E002",
-            "cycle 20240102",
-            "balance 021000021 1000000",
-            "balance 121042882 0",
-            "outputs BANKA001 0",
-            "outputs BANKB001 0",
-            "end",
-        ],
+        outcomes: &["1 turned E002"],
+        balances: [1_000_000, 0],
+        outputs: [0, 0],
     },
-];
-
-// Outputs from a position on.
-const RETRIEVALS: [Case; 3] = [
     Case {
         what: "three outputs",
         accounts: [ALPHA, BETA],
@@ -300,70 +198,66 @@ const RETRIEVALS: [Case; 3] = [
             "retrieve BANKB001 20240102 000004",
             "retrieve BANKB001 20240101 000009",
         ],
-        report: &[
+        outcomes: &[
             "1 taken 20240102BANKB001000001",
             "2 taken 20240102BANKB001000002",
             "3 taken 20240102BANKB001000003",
             "4 retrieved 2",
             "5 retrieved 0",
             "6 retrieved 3",
-            "cycle 20240102",
-            "balance 021000021 550000",
-            "balance 121042882 450000",
-            "outputs BANKA001 0",
-            "outputs BANKB001 3",
-            "end",
         ],
+        balances: [550_000, 450_000],
+        outputs: [0, 3],
     },
     Case {
         what: "a line of no account",
         accounts: [ALPHA, BETA],
         events: &[FIRST, "retrieve BANKC001 20240102 000001"],
-        report: &[
-            "1 taken 20240102BANKB001000001",
-            "2 retrieved 0",
-            "cycle 20240102",
-            "balance 021000021 850000",
-            "balance 121042882 150000",
-            "outputs BANKA001 0",
-            "outputs BANKB001 1",
-            "end",
-        ],
+        outcomes: &["1 taken 20240102BANKB001000001", "2 retrieved 0"],
+        balances: [850_000, 150_000],
+        outputs: [0, 1],
     },
     Case {
         what: "no events",
         accounts: [ALPHA, BETA],
         events: &[],
-        report: &[
-            "cycle 20240102",
-            "balance 021000021 1000000",
-            "balance 121042882 0",
-            "outputs BANKA001 0",
-            "outputs BANKB001 0",
-            "end",
-        ],
+        outcomes: &[],
+        balances: [1_000_000, 0],
+        outputs: [0, 0],
     },
 ];
 
-fn check_reports(rt: &impl Abort, alloc: Global, cases: &[Case]) -> Result<(), Fail> {
-    for case in cases {
-        let script = script_of(alloc, &case.accounts, case.events)?;
-        let ran = replayed(alloc, script.as_slice())?;
-        let report = report_of(alloc, case.report)?;
+// The script of a case.
+fn script_of(alloc: Global, case: &Case) -> Result<Bytes, NoMemory> {
+    let mut text = Bytes::new(alloc);
+    add_lines(&mut text, &[HOST])?;
+    add_lines(&mut text, &case.accounts)?;
+    add_lines(&mut text, &["begin"])?;
+    add_lines(&mut text, case.events)?;
+    Ok(text)
+}
+
+// The report that it is to have.
+fn report_of(alloc: Global, case: &Case) -> Result<Bytes, NoMemory> {
+    let [first, second] = case.balances;
+    let [of_first, of_second] = case.outputs;
+    let mut text = Bytes::new(alloc);
+    add_lines(&mut text, case.outcomes)?;
+    let closing = format!(in alloc;
+        "cycle 20240102\nbalance 021000021 {first}\nbalance 121042882 {second}\noutputs BANKA001 {of_first}\noutputs BANKB001 {of_second}\nend\n"
+    )?;
+    text.extend(closing.as_bytes())?;
+    Ok(text)
+}
+
+#[test]
+fn scripts_have_their_reports(rt: HostRuntime) -> Result<(), Fail> {
+    for case in &CASES {
+        let script = script_of(rt.alloc(), case)?;
+        let ran = replayed(rt.alloc(), script.as_slice())?;
+        let report = report_of(rt.alloc(), case)?;
         assert_eq!(rt; ran.written.as_slice(), report.as_slice(), "{}", case.what);
         assert_eq!(rt; ran.status, Status::Done, "{}", case.what);
     }
     Ok(())
-}
-
-#[test]
-fn repeats_are_answered_again(rt: HostRuntime) -> Result<(), Fail> {
-    check_reports(&rt, rt.alloc(), &REPEATS)
-}
-
-#[test]
-fn other_submissions_get_their_verdicts(rt: HostRuntime) -> Result<(), Fail> {
-    check_reports(&rt, rt.alloc(), &FLOORS)?;
-    check_reports(&rt, rt.alloc(), &OTHER_TEXTS)?;
-    check_reports(&rt, rt.alloc(), &RETRIEVALS)
 }

@@ -1,6 +1,6 @@
 use super::{ALPHA, BETA, HOST, Ran, add_lines, replayed};
 use crate::{ScriptFault, ScriptRefused, Status, Why, read_script};
-use faim_base::{Bytes, NoMemory, padded};
+use faim_base::{Bytes, NoMemory};
 use std::alloc::Global;
 use std::process::Abort;
 use std::test::Fail;
@@ -31,7 +31,7 @@ const FIRST_LINES: [(&str, &str); 15] = [
     ("host T 20240102 2400 2400\r", "value"),
 ];
 
-// Lines behind an account.
+// Lines after an account.
 const ACCOUNT_LINES: [(&str, &str); 32] = [
     ("", "shape"),
     ("begin ", "shape"),
@@ -67,7 +67,7 @@ const ACCOUNT_LINES: [(&str, &str); 32] = [
     ("account 231380104 OPERATOR 1 0", "place"),
 ];
 
-// Lines behind an event.
+// Lines after an event.
 const EVENT_LINES: [(&str, &str); 20] = [
     ("", "shape"),
     ("begin", "shape"),
@@ -212,7 +212,7 @@ fn accounts_and_endpoints_have_limits(rt: HostRuntime) -> Result<(), Fail> {
         let mut script = many_accounts(rt.alloc(), count, own)?;
         add_lines(&mut script, &[line])?;
         let ran = replayed(rt.alloc(), script.as_slice())?;
-        assert_eq!(rt; ran.written.as_slice(), want, "{line} behind {count}");
+        assert_eq!(rt; ran.written.as_slice(), want, "{line} after {count}");
     }
     for (count, own) in [(1_024, false), (64, true)] {
         let mut script = many_accounts(rt.alloc(), count, own)?;

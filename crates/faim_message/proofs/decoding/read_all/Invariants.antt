@@ -1,12 +1,12 @@
 use Rattle.std.proofs.Common.{◌≡◌, ◌-◌, length}
 use Rattle.faim_message.specs.Forms.{permitted, without}
 use Rattle.faim_message.specs.Spelling.{numbers}
-use Rattle.faim_message.specs.Stages.{Behind}
+use Rattle.faim_message.specs.Stages.{OverAt}
 use Rattle.faim_message.proofs.decoding.read_all.Given as goal
 
 abbrev pub invariant-loop-place : goal.invariant-loop-place
 invariant-loop-place l = record {
-  behind : Behind l.form l.bytes l.place l.kind l.tags;
+  over : OverAt l.form l.bytes l.place l.so_far l.tags;
   left : l.left.items ≡ without (numbers l.tags) (permitted l.form);
 }
 

@@ -8,10 +8,10 @@ use Rattle.faim_base.specs.Tags.{is_tag_number}
 use Rattle.faim_tags.specs.Spelling.{Tag}
 use Rattle.faim_tags.specs.Reading.{FoundTag, RefusesTag}
 use Rattle.faim_message.specs.declared.form.Form.{Form}
-use Rattle.faim_message.specs.declared.kind.Kind.{Kind}
+use Rattle.faim_message.specs.declared.so_far.BreakSoFar.{BreakSoFar}
 use Rattle.faim_message.specs.Forms.{permitted, without}
 use Rattle.faim_message.specs.Spelling.{numbers}
-use Rattle.faim_message.specs.Stages.{Starts, Behind, Fails, open_numbers}
+use Rattle.faim_message.specs.Stages.{Starts, OverAt, Fails, open_numbers}
 use Rattle.faim_message.proofs.Numbers.{numbers-append, open_listed}
 use Rattle.faim_message.proofs.Left.{without-push}
 use Rattle.faim_message.proofs.Across.{no_open, tag_found, tag_refused}
@@ -29,19 +29,19 @@ more_bytes form bytes tags place there e =
     ]
 
 pub returns-then-is_empty-clause-refused : goal.returns-then-is_empty-clause-refused
-returns-then-is_empty-clause-refused c kind h there =
+returns-then-is_empty-clause-refused c so_far h there =
     let form = c.args.form in
     let bytes = c.args.bytes.now in
     let tags = c.args.tags.now in
-    let wanted : c.open_numbers-wanted.result.now ≡ open_numbers form tags = c.open_numbers-wanted.ensures ∙ ap (open_numbers form) c.as_slice.ensures in
+    let wanted : c.open_numbers-open.result.now ≡ open_numbers form tags = c.open_numbers-open.ensures ∙ ap (open_numbers form) c.as_slice.ensures in
     let zero = eqb-true _ 0 (sym c.is_empty.ensures ∙ c.if-is_empty.true) in
-    let empty = sym wanted ∙ none_left c.open_numbers-wanted.result.now zero in
-    no_open form bytes c.args.place kind tags h (more_bytes form bytes tags c.args.place there empty) empty
+    let empty = sym wanted ∙ none_left c.open_numbers-open.result.now zero in
+    no_open form bytes c.args.place so_far tags h (more_bytes form bytes tags c.args.place there empty) empty
 
 pub read_tag_among-requires-clause-listed : goal.read_tag_among-requires-clause-listed
 read_tag_among-requires-clause-listed c =
     let P : List ℕ → Type 0 = λ ns. list_all is_tag_number ns ≡ true in
-    subst P (sym (c.open_numbers-wanted.ensures ∙ ap (open_numbers c.args.form) c.as_slice.ensures)) (open_listed c.args.form c.args.tags.now)
+    subst P (sym (c.open_numbers-open.ensures ∙ ap (open_numbers c.args.form) c.as_slice.ensures)) (open_listed c.args.form c.args.tags.now)
 
 pub returns-in-Ok-clause-found : goal.returns-in-Ok-clause-found
 returns-in-Ok-clause-found c =
@@ -51,30 +51,30 @@ returns-in-Ok-clause-found c =
     let place = c.args.place in
     let v = c.in-Ok.tag in
     let n = c.in-Ok.length in
-    let wanted : c.open_numbers-wanted.result.now ≡ open_numbers form tags = c.open_numbers-wanted.ensures ∙ ap (open_numbers form) c.as_slice.ensures in
+    let wanted : c.open_numbers-open.result.now ≡ open_numbers form tags = c.open_numbers-open.ensures ∙ ap (open_numbers form) c.as_slice.ensures in
     let P : List ℕ → Type 0 = λ ns. FoundTag ns c.after.result.now v n in
     let Q : List ℕ → Type 0 = λ t. FoundTag (open_numbers form tags) t v n in
     let f = subst Q c.after.ensures (subst P wanted c.in-Ok.ensures.found) in
-    IfOk-weaker c.pushed.result (λ (end : ℕ). (end ≡ place + n) × (c.pushed.new.tags ≡ tags ++ v ∷ [])) (λ (end : ℕ). (kind : Kind) → Starts form bytes place kind tags → Behind form bytes end kind c.pushed.new.tags)
-    (λ end p kind h.
-    let R : ℕ → Type 0 = λ j. Behind form bytes j kind (tags ++ v ∷ []) in
-    let S : List Tag → Type 0 = λ ts. Behind form bytes end kind ts in
-    subst S (sym p.1) (subst R (sym p.0) (tag_found form bytes place kind tags v n h f)))
+    IfOk-weaker c.pushed.result (λ (end : ℕ). (end ≡ place + n) × (c.pushed.new.tags ≡ tags ++ v ∷ [])) (λ (end : ℕ). (so_far : BreakSoFar) → Starts form bytes place so_far tags → OverAt form bytes end so_far c.pushed.new.tags)
+    (λ end p so_far h.
+    let R : ℕ → Type 0 = λ j. OverAt form bytes j so_far (tags ++ v ∷ []) in
+    let S : List Tag → Type 0 = λ ts. OverAt form bytes end so_far ts in
+    subst S (sym p.1) (subst R (sym p.0) (tag_found form bytes place so_far tags v n h f)))
     c.pushed.ensures.ok
 
 pub returns-in-Err-clause-refused : goal.returns-in-Err-clause-refused
-returns-in-Err-clause-refused c kind h there =
+returns-in-Err-clause-refused c so_far h there =
     let form = c.args.form in
     let bytes = c.args.bytes.now in
     let tags = c.args.tags.now in
     let r = c.in-Err.refused in
-    let wanted : c.open_numbers-wanted.result.now ≡ open_numbers form tags = c.open_numbers-wanted.ensures ∙ ap (open_numbers form) c.as_slice.ensures in
+    let wanted : c.open_numbers-open.result.now ≡ open_numbers form tags = c.open_numbers-open.ensures ∙ ap (open_numbers form) c.as_slice.ensures in
     let P : List ℕ → Type 0 = λ ns. RefusesTag ns c.after.result.now r in
     let Q : List ℕ → Type 0 = λ t. RefusesTag (open_numbers form tags) t r in
     let f = subst Q c.after.ensures (subst P wanted c.in-Err.ensures.refused) in
     let some = eqb-false _ 0 (sym c.is_empty.ensures ∙ c.if-is_empty.false) in
     let T : Refused → Type 0 = λ e. Fails form bytes e in
-    subst T (sym c.behind.ensures) (tag_refused form bytes c.args.place kind tags r h there (omega (arith, some, ap length wanted)) f)
+    subst T (sym c.moved.ensures) (tag_refused form bytes c.args.place so_far tags r h there (omega (arith, some, ap length wanted)) f)
 
 pub returns-in-Ok-clause-left : goal.returns-in-Ok-clause-left
 returns-in-Ok-clause-left c =
@@ -90,7 +90,7 @@ returns-in-Ok-clause-left c =
     (λ end p. taken ∙ ap (λ (ts : List Tag). without (numbers ts) all) (sym p.1))
     c.pushed.ensures.ok
 
-pub open_numbers-wanted-requires : goal.open_numbers-wanted-requires
-open_numbers-wanted-requires c =
+pub open_numbers-open-requires : goal.open_numbers-open-requires
+open_numbers-open-requires c =
     let P : List Tag → Type 0 = λ ts. c.as_slice-2.result.now ≡ without (numbers ts) (permitted c.args.form) in
     subst P (sym c.as_slice.ensures) (c.as_slice-2.ensures.value ∙ c.requires.left)

@@ -1,20 +1,19 @@
-use Rattle.std.proofs.Common.{◌≡◌, ℕ, Bool, true, false, eqb, not, List, [], ◌∷◌, ◌++◌, length, take, sym, ap, subst, ◌∙◌, arith}
-use Rattle.std.proofs.lemmas.List.{take_all}
+use Rattle.std.proofs.Common.{◌≡◌, ℕ, Bool, true, false, eqb, not, List, [], ◌∷◌, ◌++◌, length, sym, ap, subst, ◌∙◌}
 use Rattle.faim_tags.specs.Spelling.{IsTag}
 use Rattle.faim_tags.specs.Steps.{Inside, tag_of}
 use Rattle.faim_tags.proofs.Built.{tag_without, tag_with}
 use Rattle.faim_tags.proofs.reading.built.Goals as goal
 
-without_part : (n : ℕ) (fixed copy : List ℕ) (stars view : List (List ℕ)) (part : List ℕ) (empty none : Bool) → copy ≡ take (length fixed) fixed → view ≡ stars → empty ≡ eqb (length part) 0 → empty ≡ true → none ≡ eqb (length view) 0 → tag_of (Inside n fixed stars part) ≡ record { no = n; fixed = copy; stars = stars; closed = not none }
+without_part : (n : ℕ) (fixed copy : List ℕ) (stars view : List (List ℕ)) (part : List ℕ) (empty none : Bool) → copy ≡ fixed → view ≡ stars → empty ≡ eqb (length part) 0 → empty ≡ true → none ≡ eqb (length view) 0 → tag_of (Inside n fixed stars part) ≡ record { no = n; fixed = copy; stars = stars; closed = not none }
 without_part n fixed copy stars view part empty none f v e t o =
     tag_without n fixed stars part none (sym e ∙ t) (o ∙ ap (λ (x : List (List ℕ)). eqb (length x) 0) v)
-    ∙ ap (λ (x : List ℕ). record { no = n; fixed = x; stars = stars; closed = not none }) (sym (f ∙ take_all (length fixed) fixed (omega arith)))
+    ∙ ap (λ (x : List ℕ). record { no = n; fixed = x; stars = stars; closed = not none }) (sym f)
 
-with_part : (n : ℕ) (fixed copy : List ℕ) (stars new : List (List ℕ)) (part item : List ℕ) (empty : Bool) → copy ≡ take (length fixed) fixed → item ≡ take (length part) part → new ≡ stars ++ item ∷ [] → empty ≡ eqb (length part) 0 → empty ≡ false → tag_of (Inside n fixed stars part) ≡ record { no = n; fixed = copy; stars = new; closed = false }
+with_part : (n : ℕ) (fixed copy : List ℕ) (stars new : List (List ℕ)) (part item : List ℕ) (empty : Bool) → copy ≡ fixed → item ≡ part → new ≡ stars ++ item ∷ [] → empty ≡ eqb (length part) 0 → empty ≡ false → tag_of (Inside n fixed stars part) ≡ record { no = n; fixed = copy; stars = new; closed = false }
 with_part n fixed copy stars new part item empty f i p e t =
     tag_with n fixed stars part (sym e ∙ t)
-    ∙ ap (λ (x : List ℕ). record { no = n; fixed = x; stars = stars ++ part ∷ []; closed = false }) (sym (f ∙ take_all (length fixed) fixed (omega arith)))
-    ∙ ap (λ (x : List ℕ). record { no = n; fixed = copy; stars = stars ++ x ∷ []; closed = false }) (sym (i ∙ take_all (length part) part (omega arith)))
+    ∙ ap (λ (x : List ℕ). record { no = n; fixed = x; stars = stars ++ part ∷ []; closed = false }) (sym f)
+    ∙ ap (λ (x : List ℕ). record { no = n; fixed = copy; stars = stars ++ x ∷ []; closed = false }) (sym i)
     ∙ ap (λ (x : List (List ℕ)). record { no = n; fixed = copy; stars = x; closed = false }) (sym p)
 
 pub invariant_of-result : goal.invariant_of-result

@@ -1,8 +1,8 @@
 use Rattle.std.proofs.Common.{ℕ, ◌+◌, List, [], length, ap, subst, sym, arith}
 use Rattle.std.proofs.lemmas.List.{length-drop}
 use Rattle.faim_base.specs.declared.judgement.Refused.{Refused}
-use Rattle.faim_tags.specs.Reading.{RefusesTag}
-use Rattle.faim_tags.specs.Steps.{Head, Inside, Completes, Fails, moved}
+use Rattle.faim_tags.specs.Reading.{RefusesTag, moved}
+use Rattle.faim_tags.specs.Steps.{InNumber, Inside, Completes, Fails}
 use Rattle.faim_tags.proofs.Meaning.{completes-found, completes-on, fails-refuses}
 use Rattle.faim_tags.proofs.Built.{elements_fail, byte_inside}
 use Rattle.faim_tags.proofs.reading.read_tag_among.Goals as goal
@@ -19,11 +19,11 @@ returns-in-Ok-read_elements-clause-found c =
     let ns = c.args.numbers.now in
     let bytes = c.args.bytes.now in
     let P : List ℕ → Type 0 = λ t. Completes ns (Inside c.in-Ok.no [] [] []) t c.in-Ok-read_elements.value c.in-Ok-read_elements.length in
-    let all = completes-on ns (Head []) (Inside c.in-Ok.no [] [] []) bytes 6 c.in-Ok-read_elements.value c.in-Ok-read_elements.length c.in-Ok.ensures.0 c.in-Ok.ensures.2 (subst P c.after.ensures (c.in-Ok-read_elements.ensures ns)) in
+    let all = completes-on ns (InNumber []) (Inside c.in-Ok.no [] [] []) bytes 6 c.in-Ok-read_elements.value c.in-Ok-read_elements.length c.in-Ok.ensures.0 c.in-Ok.ensures.2 (subst P c.after.ensures (c.in-Ok-read_elements.ensures ns)) in
     completes-found ns bytes c.in-Ok-read_elements.value (6 + c.in-Ok-read_elements.length) (record { some = c.requires.some; listed = c.requires.listed }) all
 
-pub behind_head-requires : goal.behind_head-requires
-behind_head-requires c k is =
+pub moved-requires : goal.moved-requires
+moved-requires c k is =
     let inside = byte_inside [] (Inside c.in-Ok.no [] [] []) c.after.result.now c.in-Err-read_elements.refused k (c.in-Err-read_elements.ensures []) is in
     omega (arith, inside, ap length c.after.ensures, length-drop 6 c.args.bytes.now, c.in-Ok.ensures.0)
 
@@ -34,5 +34,5 @@ returns-in-Err-read_elements-clause-refused c =
     let e = c.in-Err-read_elements.refused in
     let P : List ℕ → Type 0 = λ t. Fails ns (Inside c.in-Ok.no [] [] []) t e in
     let Q : Refused → Type 0 = λ r. RefusesTag ns bytes r in
-    let all = elements_fail ns (Head []) (Inside c.in-Ok.no [] [] []) bytes 6 e c.in-Ok.ensures.0 c.in-Ok.ensures.2 (subst P c.after.ensures (c.in-Err-read_elements.ensures ns)) in
-    subst Q (sym c.behind_head.ensures) (fails-refuses ns bytes (moved 6 e) (record { some = c.requires.some; listed = c.requires.listed }) all)
+    let all = elements_fail ns (InNumber []) (Inside c.in-Ok.no [] [] []) bytes 6 e c.in-Ok.ensures.0 c.in-Ok.ensures.2 (subst P c.after.ensures (c.in-Err-read_elements.ensures ns)) in
+    subst Q (sym c.moved.ensures) (fails-refuses ns bytes (moved 6 e) (record { some = c.requires.some; listed = c.requires.listed }) all)

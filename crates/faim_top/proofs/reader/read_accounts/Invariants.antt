@@ -1,5 +1,5 @@
 use Rattle.std.proofs.Common.{◌≡◌, ◌+◌, ◌≤◌, [], length}
-use Rattle.faim_model.specs.Accounts.{endpoints_of}
+use Rattle.host_ledger.specs.Accounts.{endpoints_of}
 use Rattle.faim_top.specs.Lines.{lines_of}
 use Rattle.faim_top.specs.Grammar.{accounts_from}
 use Rattle.faim_top.proofs.reader.read_accounts.Given as goal

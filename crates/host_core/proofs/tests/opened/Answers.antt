@@ -13,7 +13,7 @@ returns c =
     let seen = c.body.view_is in
     let body : c.body.inside.items.items ≡ text = cc (grown, empty, seen) in
     let begun : c.in_ok-state.state ≡ record { config = c.in_ok-config.field-0; entries = [] } = c.in_ok-state.ensures in
-    let state : c.in_ok-state.state ≡ record { config = day; entries = [] } = begun ∙ ap (λ (k : Config). let s : State = record { config = k; entries = [] } in s) (c.in_ok-config.ensures) in
+    let state : c.in_ok-state.state ≡ record { config = day; entries = [] } = begun ∙ ap (λ (k : Config). let s : State = record { config = k; entries = [] } in s) c.in_ok-config.ensures.value in
     let paid = c.in_ok-payment.ensures in
     let when = c.in_ok-moment.ensures in
     let line = c.in_ok-bank.ensures in

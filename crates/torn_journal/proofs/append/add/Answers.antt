@@ -1,5 +1,5 @@
 use Rattle.site_core.proofs.Runs.{goes_on}
-use Rattle.torn_journal.proofs.Through.{then_opened}
+use Rattle.torn_journal.proofs.CallsOfAnAppend.{then_opened}
 use Rattle.torn_journal.proofs.append.add.Goals as goal
 
 pub returns-clause-told : goal.returns-clause-told

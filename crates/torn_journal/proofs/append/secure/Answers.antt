@@ -1,5 +1,5 @@
 use Rattle.site_core.proofs.Runs.{goes_as, goes_on}
-use Rattle.torn_journal.proofs.Through.{write_failed, then_synced}
+use Rattle.torn_journal.proofs.CallsOfAnAppend.{write_failed, then_synced}
 use Rattle.torn_journal.proofs.append.secure.Goals as goal
 
 pub returns-in_err-write_at-clause-told : goal.returns-in_err-write_at-clause-told

@@ -1,4 +1,4 @@
-use Rattle.torn_journal.proofs.Records.{one_list as one}
+use Rattle.torn_journal.proofs.OneList.{one_list as one}
 use Rattle.torn_journal.proofs.laws.one_list.Goals as goal
 
 pub returns : goal.returns

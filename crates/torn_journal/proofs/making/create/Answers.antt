@@ -3,7 +3,7 @@ use Rattle.site_core.specs.Log.{reads}
 use Rattle.site_core.specs.Told.{Told}
 use Rattle.site_core.proofs.Runs.{goes_on, goes_knowing}
 use Rattle.torn_journal.specs.declared.faults.CreateFault.TheVariants.{SiteFault}
-use Rattle.torn_journal.proofs.Made.{create_broken, created, handed_on}
+use Rattle.torn_journal.proofs.FirstImage.{create_broken, created, handed_on}
 use Rattle.torn_journal.proofs.making.create.Goals as goal
 
 pub returns-in_err-secure-clause-told : goal.returns-in_err-secure-clause-told

@@ -2,7 +2,7 @@ use Rattle.std.proofs.Common.{length, drop, refl}
 use Rattle.site_core.specs.Log.{reads}
 use Rattle.site_core.specs.Told.{Told, IsRead}
 use Rattle.site_core.proofs.Runs.{goes_as, goes_knowing}
-use Rattle.torn_journal.proofs.Looking.{one_look, read_front, holds_by}
+use Rattle.torn_journal.proofs.Questions.{one_look, read_front, holds_by}
 use Rattle.torn_journal.proofs.reading.fill.Goals as goal
 
 pub returns-clause-told : goal.returns-clause-told

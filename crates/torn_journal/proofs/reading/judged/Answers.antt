@@ -1,5 +1,5 @@
 use Rattle.std.proofs.Common.{arith}
-use Rattle.torn_journal.proofs.Looking.{head_payload}
+use Rattle.torn_journal.proofs.Questions.{head_payload}
 use Rattle.torn_journal.proofs.reading.judged.Goals as goal
 
 pub returns-clause-head : goal.returns-clause-head

@@ -1,8 +1,8 @@
 use Rattle.std.proofs.Common.{Bool, drop}
 use Rattle.site_core.specs.Log.{reads}
 use Rattle.site_core.proofs.Runs.{goes_on}
-use Rattle.torn_journal.specs.Resume.{NextIs}
-use Rattle.torn_journal.proofs.Looking.{second_failed, then_there, then_short, sized_payload}
+use Rattle.torn_journal.specs.Reading.{NextIs}
+use Rattle.torn_journal.proofs.Questions.{second_failed, then_there, then_short, sized_payload}
 use Rattle.torn_journal.proofs.reading.next_at.Goals as goal
 
 pub returns-in_err-payload_at-in-Payload-clause-told : goal.returns-in_err-payload_at-in-Payload-clause-told

@@ -1,7 +1,7 @@
 use Rattle.std.proofs.Common.{◌+◌, length, refl, arith}
 use Rattle.site_core.proofs.Runs.{goes_as}
 use Rattle.torn_journal.specs.Journal.{payload_of}
-use Rattle.torn_journal.proofs.Keeps.{nothing_done, broken_off, went_through}
+use Rattle.torn_journal.proofs.BeforeOrAfter.{nothing_done, broken_off, went_through}
 use Rattle.torn_journal.proofs.journal.Journal.append.Goals as goal
 
 pub returns-then-need-self-clause-moments : goal.returns-then-need-self-clause-moments

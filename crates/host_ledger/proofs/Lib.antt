@@ -1,0 +1,3 @@
+pub mod EndpointLists
+pub mod Distinct
+pub mod Additions
