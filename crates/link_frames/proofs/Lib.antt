@@ -1,0 +1,6 @@
+pub mod Fronts
+pub mod Filled
+pub mod Shapes
+pub mod Spelled
+pub mod Splitting
+pub mod Telling
