@@ -1,11 +1,11 @@
 // A run between a reader and a writer.
-ghost use Rattle.std.specs.Prelude.{◌≡◌, ◌↔◌, ◌+◌, IsNone, IfSome, IfOk};
+ghost use Rattle.std.specs.Prelude.{◌≡◌, ◌↔◌, IsNone, IfSome, IfOk};
 ghost use Rattle.std.specs.Io.KnownBytes.{Keeps};
 ghost use Rattle.faim_top.specs.declared.status.Status.TheVariants as statuses;
 ghost use Rattle.faim_top.specs.Words.{command_of, texts};
 ghost use Rattle.faim_top.specs.Grammar.{script_of};
 ghost use Rattle.faim_top.specs.Seen.{LosesAtMost, seen};
-ghost use Rattle.faim_top.specs.Ends.{Ended, limit_of};
+ghost use Rattle.faim_top.specs.Ends.{Ended, most_read};
 ghost use Rattle.faim_top.specs.Promises.{KeepsPromises};
 
 use crate::adapters::{StdSink, StdSource};
@@ -32,7 +32,7 @@ pub fn run_between<R: Read, W: Write>(
     ensures untouched { result.status ≡ statuses.Usage → Keeps (R.remaining reader) (R.remaining result.reader) × Keeps (W.contents writer) (W.contents result.writer) }
     ensures ended { IfSome (command_of (texts words.now)) (λ command.
         Ended command result.status (record { left = seen R.remaining reader result.reader; written = seen W.contents writer result.writer })) }
-    ensures few { IfSome (command_of (texts words.now)) (λ command. LosesAtMost (limit_of command + 1) (seen R.remaining reader result.reader)) }
+    ensures few { IfSome (command_of (texts words.now)) (λ command. LosesAtMost (most_read command) (seen R.remaining reader result.reader)) }
     ensures promises { result.status ≡ statuses.Done → IfSome (R.remaining reader) (λ text. IfOk (script_of text) KeepsPromises) }
 {
     let mut input = StdSource::new(reader);

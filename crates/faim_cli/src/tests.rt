@@ -40,9 +40,9 @@ fn a_run_goes_from_its_reader_to_its_writer(rt: HostRuntime) -> Result<(), Fail>
     );
     assert_eq!(rt; ran.status, Status::Done);
     assert!(rt; ran.reader.is_empty());
-    let (line, rest) = ran.writer.as_slice().split_at(9);
-    assert_eq!(rt; line, b"accepted\n".as_slice());
-    assert_eq!(rt; rest, message.as_slice());
+    let answer =
+        b"accepted\n{1500}30USERREQ1T {1510}1000{1520}20240102BANKA001000001{2000}000000150000{3100}021000021ALPHA BANK*{3400}121042882BETA BANK*{3600}BTR";
+    assert_eq!(rt; ran.writer.as_slice(), answer.as_slice());
     Ok(())
 }
 

@@ -139,7 +139,7 @@ two_tags Ack v e =
     absurd (omega (arith, one_is v.no 1100 p.0, one_is v.no 1110 q.0))
 
 -- a message is read to its end, and there it is told
-message_told : (form : Form) (breaks : Breaks) (tags : List Tag) (bytes : List ℕ) → AreTags form tags → is_complete form tags ≡ true → bytes ≡ joined (between breaks) (ending breaks) tags → (last : Stage) × (reads form start bytes ≡ Some last) × (content_of form last ≡ record { form = form; breaks = breaks; tags = tags })
+pub message_told : (form : Form) (breaks : Breaks) (tags : List Tag) (bytes : List ℕ) → AreTags form tags → is_complete form tags ≡ true → bytes ≡ joined (between breaks) (ending breaks) tags → (last : Stage) × (reads form start bytes ≡ Some last) × (content_of form last ≡ record { form = form; breaks = breaks; tags = tags })
 message_told form breaks [] bytes h c e = absurd (let wrong : false ≡ true = h.led in cc)
 message_told form breaks (v ∷ []) bytes h c e = absurd (two_tags form v c)
 message_told form breaks (v ∷ w ∷ more) bytes h c e =

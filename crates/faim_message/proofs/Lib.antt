@@ -4,14 +4,12 @@ pub mod Flow
 pub mod Goes
 pub mod Arrive
 pub mod Judge
+pub mod Decodings
 pub mod Reasons
 pub mod Each
 pub mod Across
 mod Examples
-pub mod Pieces
-pub mod Readings
-pub mod Marks
-pub mod Bodies
+mod EditExamples
 pub mod Duplication
 pub mod Finds
 pub mod Numbered
@@ -19,5 +17,6 @@ pub mod ImadText
 pub mod Lengths
 pub mod MarkBytes
 pub mod BodyTexts
+pub mod Submissions
+pub mod HeadRanges
 pub mod Left
-pub mod PlainCode

@@ -20,7 +20,7 @@ mark_stands Draft = (let long : length (classes 1500) ≡ 12 = refl in omega (ar
 mark_stands Output = (let long : length (classes 1100) ≡ 5 = refl in omega (arith, long), refl)
 mark_stands Ack = (let long : length (classes 1100) ≡ 5 = refl in omega (arith, long), refl)
 
-first_place : (form : Form) (v : Tag) (tags : List Tag) → AreTags form (v ∷ tags) → mark_place form < length v.fixed
+pub first_place : (form : Form) (v : Tag) (tags : List Tag) → AreTags form (v ∷ tags) → mark_place form < length v.fixed
 first_place form v tags a =
     let P : ℕ → Type 0 = λ n. mark_place form < length (classes n) in
     let fixed : length v.fixed ≡ length (classes v.no) = (fill-run (classes v.no) v.fixed a.each.0.filled).1 in

@@ -1,8 +1,9 @@
 // Reading a message.
-ghost use Rattle.std.specs.Prelude.{◌≡◌, ◌+◌, ◌^◌, ◌<◌, ◌≤◌, ◌++◌, ◌∷◌, [], ◌⊎◌, ℕ, drop, length, true, None, IfOk, IfErr, MatchResult};
+ghost use Rattle.std.specs.Prelude.{◌≡◌, ◌≢◌, ◌+◌, ◌^◌, ◌<◌, ◌≤◌, ◌++◌, ◌∷◌, [], ◌⊎◌, ℕ, drop, length, true, Some, None, IfOk, IfErr, MatchResult};
 ghost use Rattle.faim_message.specs.Forms.{permitted, without};
 ghost use Rattle.faim_message.specs.Spelling.{Spells, numbers};
 ghost use Rattle.faim_message.specs.Refusal.{Refuses};
+ghost use Rattle.faim_message.specs.Decoded.{decoded};
 ghost use Rattle.faim_message.specs.Stages.{OverAt, Starts, Ends, Fails, breaks_with, break_from, feed_from, takes_brace, takes_feed, takes_return};
 ghost use Rattle.faim_message.specs.declared.so_far.BreakSoFar.{BreakSoFar};
 ghost use Rattle.faim_base.specs.Tags.{is_tag_number};
@@ -21,6 +22,8 @@ use std::alloc::Global;
 pub fn decode(alloc: Global, bytes: &[u8], form: Form) -> Result<Message, Refused>
     ensures found { IfOk result (λ m. Spells m bytes.now × (m.form ≡ form)) }
     ensures refused { IfErr result (λ e. Refuses form bytes.now e) }
+    ensures read { IfOk result (λ m. decoded form bytes.now ≡ Some m) }
+    ensures none_read { IfErr result (λ e. e ≢ Refused.NoMemory → decoded form bytes.now ≡ None) }
 {
     let (tags, breaks) = match read_tags(alloc, bytes, form) {
         Ok(read) => read,

@@ -1,13 +1,17 @@
 // Laws of the texts of messages. Each call does nothing: its contract is the law.
-ghost use Rattle.std.specs.Prelude.{◌≡◌, ◌≢◌, ◌⊎◌, ◌<◌, ◌≤◌, ◌↔◌, ℕ, List, length, true, Some, is_some, slice_index, slice_set, IsTrue};
+ghost use Rattle.std.specs.Prelude.{◌≡◌, ◌≢◌, ◌⊎◌, ◌<◌, ◌≤◌, ◌↔◌, ℕ, List, length, true, Some, None, Ok, is_some, slice_index, slice_set, IsTrue};
+ghost use Rattle.std.specs.List.{list_all};
 ghost use Rattle.faim_base.specs.Limits.{longest_message};
+ghost use Rattle.faim_base.specs.Numbers.{IsAmount, IsType};
+ghost use Rattle.faim_base.specs.Ranges.{IsAba, IsImad};
 ghost use Rattle.faim_base.specs.Text.{is_text_byte};
+ghost use Rattle.faim_base.specs.declared.judgement.Head.{Head};
 ghost use Rattle.faim_base.specs.declared.judgement.Refused.{Refused};
 ghost use Rattle.faim_message.specs.declared.form.Form.{Form};
-ghost use Rattle.faim_message.specs.declared.judged.Plain.{Plain};
-ghost use Rattle.faim_message.specs.Plain.{PlainParts, plain_text, plain_parts, plain_of, are_plain, body_of, with_mark};
 ghost use Rattle.faim_message.specs.Spelling.{Content, IsMessage, Spells, message_spelling, mark_byte, mark_in, marked_with, body_text};
 ghost use Rattle.faim_message.specs.Refusal.{Begins, Refuses};
+ghost use Rattle.faim_message.specs.Decoded.{decoded};
+ghost use Rattle.faim_message.specs.Heads.{head_of};
 ghost use Rattle.faim_message.specs.Stages.{reads, start};
 
 /// Of one form, one message has one spelling, and one spelling has one message.
@@ -58,42 +62,63 @@ pub fn each_input_is_judged()
         → ((m : Content) × Spells m bytes × (m.form ≡ form)) ⊎ ((e : Refused) × Refuses form bytes e × (e ≢ Refused.NoMemory)) }
 {}
 
+/// What `decoded` finds is the message of the form that the bytes spell, and it finds none exactly where they spell none
+/// (docs/FORMATS.md, "Messages").
+pub fn decoded_is_spelled()
+    ensures found { (form : Form) (bytes : List ℕ) (m : Content) → (decoded form bytes ≡ Some m) ↔ (Spells m bytes × (m.form ≡ form)) }
+    ensures none { (form : Form) (bytes : List ℕ) → (decoded form bytes ≡ None) ↔ ((m : Content) → Spells m bytes → m.form ≢ form) }
+{}
+
+/// A submission that a text spells shows its mark, a text byte, as byte 17 of the text, counted from 0. With another text
+/// byte there, the text is that of the submission with that mark (docs/FORMATS.md, "Messages").
+pub fn submissions_show_their_marks()
+    ensures place { (text : List ℕ) (m : Content) → decoded Form.Input text ≡ Some m → mark_in m.form m.tags ≡ slice_index text 17 }
+    ensures text_byte { (text : List ℕ) (m : Content) → decoded Form.Input text ≡ Some m → IsTrue (is_text_byte (mark_in m.form m.tags)) }
+    ensures marked { (text : List ℕ) (m : Content) (mark : ℕ) → decoded Form.Input text ≡ Some m → IsTrue (is_text_byte mark)
+        → decoded Form.Input (slice_set text 17 mark) ≡ Some (marked_with mark m) }
+{}
+
+/// The body's text of a submission that a text spells is that text with a blank as byte 17. It is the text of the
+/// submission with a blank as its mark, it gives the text back with the submission's own mark, and it has 1 byte to as
+/// many as `LONGEST_MESSAGE` says (docs/FORMATS.md, "Messages").
+pub fn submissions_show_their_bodies()
+    ensures text { (text : List ℕ) (m : Content) → decoded Form.Input text ≡ Some m → body_text m ≡ slice_set text 17 32 }
+    ensures reads { (text : List ℕ) (m : Content) → decoded Form.Input text ≡ Some m → decoded Form.Input (body_text m) ≡ Some (marked_with 32 m) }
+    ensures back { (text : List ℕ) (m : Content) → decoded Form.Input text ≡ Some m → slice_set (body_text m) 17 (mark_in m.form m.tags) ≡ text }
+    ensures some { (text : List ℕ) (m : Content) → decoded Form.Input text ≡ Some m → 1 ≤ length (body_text m) }
+    ensures short { (text : List ℕ) (m : Content) → decoded Form.Input text ≡ Some m → length (body_text m) ≤ longest_message }
+{}
+
+/// A message with another mark has that mark, and the head that it had; a submission has the body that it had.
+pub fn a_mark_changes_alone()
+    ensures mark { (m : Content) (mark : ℕ) → IsMessage m → mark_in m.form (marked_with mark m).tags ≡ mark }
+    ensures head { (m : Content) (mark : ℕ) → IsMessage m → head_of (marked_with mark m) ≡ head_of m }
+    ensures body { (m : Content) (mark : ℕ) → IsMessage m → m.form ≡ Form.Input → body_text (marked_with mark m) ≡ body_text m }
+{}
+
+/// Two texts of submissions with one body have one head, and they are one text where their marks are equal too.
+pub fn one_body_has_one_head()
+    ensures head { (text other : List ℕ) (m w : Content) → decoded Form.Input text ≡ Some m → decoded Form.Input other ≡ Some w
+        → body_text m ≡ body_text w → head_of m ≡ head_of w }
+    ensures text { (text other : List ℕ) (m w : Content) → decoded Form.Input text ≡ Some m → decoded Form.Input other ≡ Some w
+        → body_text m ≡ body_text w → mark_in m.form m.tags ≡ mark_in w.form w.tags → text ≡ other }
+{}
+
+/// The parts of a head that a submission gives are in their ranges: an identifier, two banks of nine digits, a code of
+/// three text bytes, a type and a subtype of two digits each, and an amount of twelve digits.
+pub fn heads_are_in_range()
+    ensures imad { (text : List ℕ) (m : Content) (h : Head) → decoded Form.Input text ≡ Some m → head_of m ≡ Ok h → IsImad h.imad }
+    ensures sender { (text : List ℕ) (m : Content) (h : Head) → decoded Form.Input text ≡ Some m → head_of m ≡ Ok h → IsAba h.sender }
+    ensures receiver { (text : List ℕ) (m : Content) (h : Head) → decoded Form.Input text ≡ Some m → head_of m ≡ Ok h → IsAba h.receiver }
+    ensures code { (text : List ℕ) (m : Content) (h : Head) → decoded Form.Input text ≡ Some m → head_of m ≡ Ok h
+        → (length h.code ≡ 3) × IsTrue (list_all is_text_byte h.code) }
+    ensures kind { (text : List ℕ) (m : Content) (h : Head) → decoded Form.Input text ≡ Some m → head_of m ≡ Ok h → IsType h.kind }
+    ensures sub { (text : List ℕ) (m : Content) (h : Head) → decoded Form.Input text ≡ Some m → head_of m ≡ Ok h → IsType h.sub }
+    ensures amount { (text : List ℕ) (m : Content) (h : Head) → decoded Form.Input text ≡ Some m → head_of m ≡ Ok h → IsAmount h.amount }
+{}
+
 /// Bytes are refused for one reason, beside want of memory.
 pub fn one_refusal()
     ensures { (form : Form) (bytes : List ℕ) (a b : Refused) → Refuses form bytes a → Refuses form bytes b
         → (a ≡ b) ⊎ ((a ≡ Refused.NoMemory) ⊎ (b ≡ Refused.NoMemory)) }
-{}
-
-/// Each plain message has one text, and each text is that of one plain message at most
-/// (docs/FORMATS.md, "Plain messages").
-pub fn one_plain_reading()
-    ensures reads { (env : ℕ) (p : PlainParts) → are_plain p ≡ true
-        → plain_parts env (plain_text env p) ≡ Some p }
-    ensures spells { (env : ℕ) (bytes : List ℕ) (p : PlainParts) → plain_parts env bytes ≡ Some p
-        → (bytes ≡ plain_text env p) × (are_plain p ≡ true) }
-{}
-
-/// The mark of a plain message stands at byte 17, from 0. With the other mark the text is that of the same message with
-/// that mark, and with its own mark it stays as it is.
-pub fn marks_change_alone()
-    ensures reads { (env : ℕ) (bytes : List ℕ) (p : PlainParts) (k : ℕ)
-        → plain_parts env bytes ≡ Some p → (k ≡ 32) ⊎ (k ≡ 80)
-        → plain_parts env (with_mark k bytes) ≡ Some (record p { mark = k }) }
-    ensures place { (env : ℕ) (bytes : List ℕ) (p : PlainParts) → plain_parts env bytes ≡ Some p
-        → slice_index bytes 17 ≡ p.mark }
-    ensures own { (env : ℕ) (bytes : List ℕ) (p : PlainParts) → plain_parts env bytes ≡ Some p
-        → with_mark p.mark bytes ≡ bytes }
-{}
-
-/// The body of a plain message is the same message with a blank as its mark, and doesn't depend on what stands in the
-/// mark's place. The mark, a blank or `P`, gives the message's text back.
-pub fn marks_share_a_body()
-    ensures reads { (env : ℕ) (text : List ℕ) (p : Plain) → plain_of env text ≡ Some p
-        → plain_of env (body_of text) ≡ Some (record p { mark = 32 }) }
-    ensures marks { (env : ℕ) (text : List ℕ) (p : Plain) → plain_of env text ≡ Some p
-        → (p.mark ≡ 32) ⊎ (p.mark ≡ 80) }
-    ensures gives_back { (env : ℕ) (text : List ℕ) (p : Plain) → plain_of env text ≡ Some p
-        → with_mark p.mark (body_of text) ≡ text }
-    ensures shared { (env : ℕ) (text : List ℕ) (p : Plain) (k : ℕ) → plain_of env text ≡ Some p
-        → body_of (with_mark k text) ≡ body_of text }
 {}

@@ -1,16 +1,13 @@
-//! Messages of the format: the four forms with their spelling and reading, and plain messages
-//! (docs/FORMATS.md, "Messages" and "Plain messages").
+//! Messages of the format: the four forms with their spelling and reading (docs/FORMATS.md, "Messages").
 #![tactic(auto)]
 
 mod allowed;
 mod decoding;
 mod form;
 mod head;
-mod judged;
 mod laws;
 mod message;
 mod numbering;
-mod plain_messages;
 mod so_far;
 #[cfg(test)]
 mod tests;
@@ -18,13 +15,12 @@ mod writing;
 
 pub use decoding::decode;
 pub use form::{Breaks, Form};
-pub use judged::Plain;
 pub use laws::{
-    a_mark_is_one_byte, bodies_tell_messages_apart, each_input_is_judged, marks_change_alone,
-    marks_share_a_body, one_plain_reading, one_refusal, one_spelling_of_messages,
-    reading_tells_what_begins, spelled_is_not_refused, spellings_are_short,
+    a_mark_changes_alone, a_mark_is_one_byte, bodies_tell_messages_apart, decoded_is_spelled,
+    each_input_is_judged, heads_are_in_range, one_body_has_one_head, one_refusal,
+    one_spelling_of_messages, reading_tells_what_begins, spelled_is_not_refused,
+    spellings_are_short, submissions_show_their_bodies, submissions_show_their_marks,
 };
 pub use message::{Message, Tags};
 pub use numbering::with_imad;
-pub use plain_messages::plain;
 pub use writing::{body, encode};

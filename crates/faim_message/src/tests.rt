@@ -1,4 +1,3 @@
 // Messages as literal bytes.
 mod form_table;
 mod forms;
-mod plain;

@@ -19,13 +19,13 @@ use Rattle.faim_model.specs.Verdicts.{is_customer, is_past}
 use Rattle.faim_model.specs.Lawful.{IsAccepted, Lawful, last_moment, moment_of}
 use Rattle.faim_model.proofs.Balances.{leaves_floor}
 use Rattle.faim_model.proofs.Imads.{bytes_equal, bytes_pass}
-use Rattle.faim_model.proofs.Judgements.{judged_is_new, new_is_taken, posted_judged}
+use Rattle.faim_model.proofs.Judgements.{posted_taken}
 
 known_is_some : {A : Type 0} (o : Option A) → is_none o ≡ false → IsSome o
 known_is_some None known = absurd cc
 known_is_some (Some a) known = refl
 
-not_yet : (limit moment : ℕ) → nat_le limit moment ≡ false → moment < limit
+pub not_yet : (limit moment : ℕ) → nat_le limit moment ≡ false → moment < limit
 not_yet limit moment early = grind (arith, nat_tests)
 
 customer_early : (is_one past : Bool) → is_one && past ≡ false → is_one ≡ true → past ≡ false
@@ -39,9 +39,7 @@ bank_early false past in_time other = in_time
 pub accepted : (c : Config) (older : List Entry) (h : Head) (body : List ℕ) (resent : Bool) (moment : ℕ) (dest : List ℕ) (seq : ℕ)
     → Lawful c (Posted h body resent moment (Taken dest seq) ∷ older) → IsAccepted c older h moment dest seq
 accepted c older h body resent moment dest seq lawful =
-    let v : Verdict = Taken dest seq in
-    let new = judged_is_new c older h.imad.source moment h body None v (posted_judged c older h body resent moment v lawful.0) in
-    let taken = new_is_taken c older h.imad.source moment h None dest seq new.rest_is in
+    let taken = posted_taken c older h body resent moment dest seq lawful.0 in
     let place : endpoint_of c h.receiver ≡ dest = taken.dest_is in
     let next : seq ≡ sent_in_cycle c older dest + 1 =
     subst (λ (e : List ℕ). seq ≡ sent_in_cycle c older e + 1) place (sym taken.seq_is) in
@@ -62,7 +60,7 @@ accepted c older h body resent moment dest seq lawful =
 
 pub follows_in_time : (c : Config) (older : List Entry) (x : Entry) → Lawful c (x ∷ older) → last_moment older ≤ moment_of x
 follows_in_time c older (Posted h body resent moment v) lawful = lawful.0.in_time
-follows_in_time c older (Roll moment date) lawful = absurd lawful.0
+follows_in_time c older (Roll moment date) lawful = lawful.0.in_time
 
 one_passes : (passes : Bool) (i : Item) (kept : List Item) (n : ℕ) → length kept ≡ n → length (if passes then i ∷ kept else kept) ≡ n + (if passes then 1 else 0)
 one_passes true i kept n same = omega arith

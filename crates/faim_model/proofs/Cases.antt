@@ -35,9 +35,9 @@ pub record IsTaken (current served stranger customer_late bank_late low full : B
   pub dest_is : to ≡ dest
   pub seq_is : number ≡ seq
 
-pub taken_case : (current : Bool) (edit : Option Reject) (served stranger customer_late bank_late low full : Bool) (to : List ℕ) (number : ℕ) (dest : List ℕ) (seq : ℕ)
+pub taken_case : (current : Bool) (failed : Option Reject) (served stranger customer_late bank_late low full : Bool) (to : List ℕ) (number : ℕ) (dest : List ℕ) (seq : ℕ)
     → (if not current then refused h101
-    else option_map_or refused edit (
+    else option_map_or refused failed (
     if not served then refused e161
     else if stranger then refused e162
     else if customer_late then refused w301
@@ -46,7 +46,7 @@ pub taken_case : (current : Bool) (edit : Option Reject) (served stranger custom
     else if full then refused i501
     else New (Taken to number))) ≡ New (Taken dest seq)
     → IsTaken current served stranger customer_late bank_late low full to number dest seq
-taken_case false edit served stranger customer_late bank_late low full to number dest seq taken = absurd cc
+taken_case false failed served stranger customer_late bank_late low full to number dest seq taken = absurd cc
 taken_case true (Some why) served stranger customer_late bank_late low full to number dest seq taken = absurd cc
 taken_case true None false stranger customer_late bank_late low full to number dest seq taken = absurd cc
 taken_case true None true true customer_late bank_late low full to number dest seq taken = absurd cc

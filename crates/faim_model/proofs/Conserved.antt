@@ -4,7 +4,6 @@ use Rattle.std.proofs.lemmas.Int.{ints}
 use Rattle.std.specs.List.{Contains}
 use Rattle.std.specs.Option.{option_map_or}
 use Rattle.std.specs.Str.{bytes_eq}
-use Rattle.faim_base.specs.declared.judgement.Verdict.{Verdict}
 use Rattle.faim_base.specs.declared.judgement.Verdict.TheVariants.{Taken, Refused}
 use Rattle.host_ledger.specs.declared.config.Account.{Account}
 use Rattle.host_ledger.specs.declared.config.Config.{Config}
@@ -16,7 +15,7 @@ use Rattle.faim_model.specs.Lists.{summed, total}
 use Rattle.faim_model.specs.Sums.{balance, gives, moves_money, takes}
 use Rattle.faim_model.specs.Lawful.{Follows, Lawful}
 use Rattle.faim_model.proofs.Balances.{moves_by_entry}
-use Rattle.faim_model.proofs.Judgements.{judged_is_new, new_is_taken, posted_judged}
+use Rattle.faim_model.proofs.Judgements.{posted_taken}
 use Rattle.faim_model.proofs.Members.{first_in, later_in}
 use Rattle.faim_model.proofs.OwnAccounts.{Apart, found_by_number, sound_apart, sum_at_number}
 
@@ -58,9 +57,7 @@ gives_as_takes : (c : Config) (older : List Entry) (x : Entry) → Apart c.accou
 gives_as_takes c older (Roll moment date) apart follows = refl
 gives_as_takes c older (Posted h body resent moment (Refused why)) apart follows = refl
 gives_as_takes c older (Posted h body resent moment (Taken dest seq)) apart follows =
-    let v : Verdict = Taken dest seq in
-    let new = judged_is_new c older h.imad.source moment h body None v (posted_judged c older h body resent moment v follows) in
-    let taken = new_is_taken c older h.imad.source moment h None dest seq new.rest_is in
+    let taken = posted_taken c older h body resent moment dest seq follows in
     even_by c.accounts apart (moves_money h) h.sender h.receiver h.amount
     (served_known (account_of c h.sender) h.imad.source taken.is_served) taken.receiver_known
 

@@ -47,7 +47,10 @@ above_by lowest before after g t moved above = omega (arith, ints)
 -- at each number
 above_lowest : (c : Config) (es : List Entry) → Lawful c es → (aba : List ℕ) → int_min (floor_of c aba) (opening_of c aba) ≤ℤ balance c es aba
 above_lowest c [] lawful aba = at_opening (floor_of c aba) (opening_of c aba)
-above_lowest c (Roll moment date ∷ older) lawful aba = absurd lawful.0
+above_lowest c (Roll moment date ∷ older) lawful aba =
+    let x : Entry = Roll moment date in
+    above_by (int_min (floor_of c aba) (opening_of c aba)) (balance c older aba) (balance c (x ∷ older) aba) 0 0 (moves_by_entry c x older aba)
+    (let above : int_min (floor_of c aba) (opening_of c aba) ≤ℤ balance c older aba = above_lowest c older lawful.1 aba in omega (arith, ints))
 above_lowest c (Posted h body resent moment (Refused why) ∷ older) lawful aba =
     let x : Entry = Posted h body resent moment (Refused why) in
     above_by (int_min (floor_of c aba) (opening_of c aba)) (balance c older aba) (balance c (x ∷ older) aba) 0 0 (moves_by_entry c x older aba)

@@ -1,5 +1,5 @@
 -- The numbers of outputs under a date.
-use Rattle.std.proofs.Common.{◌≡◌, refl, sym, ◌∙◌, subst, ℕ, suc, ◌+◌, ◌==◌, Bool, true, false, List, [], ◌∷◌, ◌++◌, length, None, if◌then◌else◌, arith, add-one}
+use Rattle.std.proofs.Common.{◌≡◌, refl, sym, ◌∙◌, subst, ℕ, suc, ◌+◌, ◌==◌, Bool, true, false, List, [], ◌∷◌, ◌++◌, length, if◌then◌else◌, arith, add-one}
 use Rattle.std.proofs.lemmas.Bool.{eqb-true}
 use Rattle.std.proofs.lemmas.Grind.{common_steps}
 use Rattle.std.proofs.lemmas.List.{append-nil}
@@ -13,7 +13,7 @@ use Rattle.faim_model.specs.Sums.{cycle}
 use Rattle.faim_model.specs.Outputs.{Item, count_under, one_if, outputs}
 use Rattle.faim_model.specs.Lawful.{Lawful, numbers_under, one_to}
 use Rattle.faim_model.proofs.Imads.{bytes_equal}
-use Rattle.faim_model.proofs.Judgements.{judged_is_new, new_is_taken, posted_judged}
+use Rattle.faim_model.proofs.Judgements.{posted_taken}
 
 -- the numbers, and how many there are, with one item more
 numbers_more : (date : ℕ) (items : List Item) (i : Item)
@@ -21,7 +21,7 @@ numbers_more : (date : ℕ) (items : List Item) (i : Item)
 numbers_more date [] i = grind arith
 numbers_more date (x ∷ items) i = grind (arith, numbers_more date items i)
 
-count_more : (date : ℕ) (items : List Item) (i : Item)
+pub count_more : (date : ℕ) (items : List Item) (i : Item)
     → count_under date (items ++ i ∷ []) ≡ count_under date items + (if i.at.date == date then 1 else 0)
 count_more date [] i = grind arith
 count_more date (x ∷ items) i = grind (arith, count_more date items i)
@@ -59,8 +59,7 @@ in_order c (Roll moment next ∷ es) lawful e date =
 in_order c (Posted h body resent moment (Refused why) ∷ es) lawful e date = rw (append-nil (outputs c es e)) (in_order c es lawful.1 e date)
 in_order c (Posted h body resent moment (Taken dest seq) ∷ es) lawful e date =
     let post : Entry = Posted h body resent moment (Taken dest seq) in
-    let new = judged_is_new c es h.imad.source moment h body None (Taken dest seq) (posted_judged c es h body resent moment (Taken dest seq) lawful.0) in
-    let taken = new_is_taken c es h.imad.source moment h None dest seq new.rest_is in
+    let taken = posted_taken c es h body resent moment dest seq lawful.0 in
     let same_date : h.imad.date ≡ cycle c es = eqb-true h.imad.date (cycle c es) taken.in_cycle in
     let next : dest ≡ e → seq ≡ count_under h.imad.date (outputs c es e) + 1 =
     λ at. rw same_date (subst (λ (x : List ℕ). seq ≡ count_under (cycle c es) (outputs c es x) + 1) (taken.dest_is ∙ at) (sym taken.seq_is)) in

@@ -1,5 +1,7 @@
 pub mod Imads
 pub mod Cases
+pub mod Marks
+pub mod Submitted
 pub mod Judgements
 pub mod Once
 pub mod InOrder
@@ -14,6 +16,12 @@ pub mod Places
 pub mod Standing
 pub mod Allowed
 pub mod Again
+pub mod Kept
+pub mod Told
 pub mod Turned
-pub mod Examples
-pub mod Strange
+pub mod Rising
+pub mod Refusing
+pub mod Recorded
+pub mod Sound
+pub mod Spelled
+mod Examples

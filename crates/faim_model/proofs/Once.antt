@@ -7,7 +7,7 @@ use Rattle.host_ledger.specs.declared.entries.Entry.TheVariants.{Posted, Roll}
 use Rattle.faim_model.specs.Verdicts.{has_imad, place_of, same_imad}
 use Rattle.faim_model.specs.Lawful.{Lawful, times_posted}
 use Rattle.faim_model.proofs.Imads.{imads_equal, never_posted}
-use Rattle.faim_model.proofs.Judgements.{judged_is_new, posted_judged}
+use Rattle.faim_model.proofs.Judgements.{posted_fresh}
 
 once_more : (own imad : Imad) (es : List Entry) (same : Bool) → same_imad own imad ≡ same → place_of (has_imad own) es ≡ None
     → times_posted imad es ≤ 1 → times_posted imad es + (if same then 1 else 0) ≤ 1
@@ -21,5 +21,4 @@ pub at_most_once : (c : Config) (es : List Entry) → Lawful c es → (imad : Im
 at_most_once c [] lawful imad = omega arith
 at_most_once c (Roll moment date ∷ es) lawful imad = omega (arith, at_most_once c es lawful.1 imad)
 at_most_once c (Posted h body resent moment v ∷ es) lawful imad =
-    let new = judged_is_new c es h.imad.source moment h body None v (posted_judged c es h body resent moment v lawful.0) in
-    once_more h.imad imad es (same_imad h.imad imad) refl new.fresh (at_most_once c es lawful.1 imad)
+    once_more h.imad imad es (same_imad h.imad imad) refl (posted_fresh c es h body resent moment v lawful.0) (at_most_once c es lawful.1 imad)

@@ -14,7 +14,7 @@ use Rattle.faim_model.specs.Lawful.{Follows, Lawful}
 use Rattle.faim_model.specs.Turns.{entry_at}
 use Rattle.faim_model.proofs.Imads.{bytes_equal, bytes_pass, imads_equal, imads_pass, none_there}
 use Rattle.faim_model.proofs.Members.{first_or_later, none_in}
-use Rattle.faim_model.proofs.Judgements.{judged_is_new, posted_judged}
+use Rattle.faim_model.proofs.Judgements.{posted_fresh}
 
 -- an entry that passes is found, and one that doesn't is passed over
 finds : (p : Entry → Bool) (x : Entry) (es : List Entry) → p x ≡ true → place_of p (x ∷ es) ≡ Some (length es)
@@ -88,10 +88,9 @@ module _ (c : Config) (h : Head) (body : List ℕ) (resent : Bool) (moment : ℕ
   later_has_other : (x : Entry) (es : List Entry) → Follows c es x → Contains es post → has_imad h.imad x ≡ false
   later_has_other (Roll at date) es follows there = refl
   later_has_other (Posted h' body' resent' moment' v') es follows there =
-      let new = judged_is_new c es h'.imad.source moment' h' body' None v' (posted_judged c es h' body' resent' moment' v' follows) in
       false_from_ne_true (same_imad h'.imad h.imad)
       (λ same. let found = imad_found h'.imad es there (sym (imads_equal h'.imad h.imad same)) in
-      let both : None ≡ Some found.0 = sym new.fresh ∙ found.1 in absurd cc)
+      let both : None ≡ Some found.0 = sym (posted_fresh c es h' body' resent' moment' v' follows) ∙ found.1 in absurd cc)
 
   found_newest : (x : Entry) (es : List Entry) → post ≡ x → IsFound (x ∷ es) (has_body h.imad body) post
   found_newest x es here =
@@ -117,8 +116,7 @@ module _ (c : Config) (h : Head) (body : List ℕ) (resent : Bool) (moment : ℕ
   none_after : (other : List ℕ) (x : Entry) (es : List Entry) → Follows c es x → post ≡ x → place_of (has_body h.imad other) es ≡ None
   none_after other x es follows here =
       let own : Follows c es post = subst (λ (y : Entry). Follows c es y) (sym here) follows in
-      let new = judged_is_new c es h.imad.source moment h body None v (posted_judged c es h body resent moment v own) in
-      none_with_body h.imad other es new.fresh
+      none_with_body h.imad other es (posted_fresh c es h body resent moment v own)
 
   -- no entry has its identifier and another body
   pub no_other_body : (other : List ℕ) (es : List Entry) → Lawful c es → Contains es post → (other ≡ body → ⊥) → place_of (has_body h.imad other) es ≡ None

@@ -1,15 +1,12 @@
--- The verdict on the text of a message that comes from a line at a moment.
-use Rattle.std.specs.Prelude.{ℕ, ◌+◌, ◌*◌, ◌==◌, nat_le, Bool, false, not, ◌&&◌, List, [], ◌∷◌, length, codes, bytes_eq, if◌then◌else◌, Option, Some, None, is_none, pos, ◌-ℤ◌, int_lt, Result, Ok, Err}
+-- The verdict on a text that comes from a line at a moment.
+use Rattle.std.specs.Prelude.{ℕ, ◌+◌, ◌*◌, ◌==◌, nat_le, Bool, false, not, ◌&&◌, List, [], ◌∷◌, length, codes, bytes_eq, if◌then◌else◌, Option, Some, None, is_none, pos, ◌-ℤ◌, int_lt}
 use Rattle.std.specs.Option.{option_map_or}
 use Rattle.faim_base.specs.declared.ids.Imad.{Imad}
-use Rattle.faim_base.specs.declared.ids.IdFault.{IdFault}
 use Rattle.faim_base.specs.declared.judgement.Head.{Head}
 use Rattle.faim_base.specs.declared.judgement.Reject.{Reject}
 use Rattle.faim_base.specs.declared.judgement.Verdict.{Verdict}
 use Rattle.faim_base.specs.declared.judgement.Verdict.TheVariants.{Taken, Refused}
 use Rattle.faim_base.specs.Refusals.{e001, e002, e161, e162, f401, h101, h102, i501, w301, w302, x201}
-use Rattle.faim_message.specs.declared.judged.Plain.{Plain}
-use Rattle.faim_message.specs.Plain.{body_of, plain_of}
 use Rattle.host_ledger.specs.declared.config.Config.{Config}
 use Rattle.host_ledger.specs.declared.entries.Entry.{Entry}
 use Rattle.host_ledger.specs.declared.entries.Entry.TheVariants.{Posted, Roll}
@@ -18,6 +15,7 @@ use Rattle.faim_model.specs.declared.decisions.Decision.TheVariants.{New, Known,
 use Rattle.host_ledger.specs.Accounts.{account_of, endpoint_of, floor_of, is_served_at}
 use Rattle.faim_model.specs.Sums.{moves_money, balance, cycle}
 use Rattle.faim_model.specs.Outputs.{sent_in_cycle}
+use Rattle.faim_model.specs.Submissions.{Submission, Strange, Unnumbered, Numbered, submission}
 
 -- the same date, source and number
 abbrev pub same_imad : Imad → Imad → Bool
@@ -55,9 +53,9 @@ refused why = New (Refused why)
 
 -- a message that is new: the first of these that holds, or it is taken and gets the next number of the receiver's endpoint
 abbrev pub judged_new : Config → List Entry → List ℕ → ℕ → Head → Option Reject → Decision
-judged_new c es line t h edit =
+judged_new c es line t h failed =
     if not (h.imad.date == cycle c es) then refused h101
-    else option_map_or refused edit (
+    else option_map_or refused failed (
     if not (is_served_at c h.sender line) then refused e161
     else if is_none (account_of c h.receiver) then refused e162
     else if is_customer h && is_past c es c.customer t then refused w301
@@ -66,12 +64,12 @@ judged_new c es line t h edit =
     else if nat_le 999_998 (sent_in_cycle c es (endpoint_of c h.receiver)) then refused i501
     else New (Taken (endpoint_of c h.receiver) (sent_in_cycle c es (endpoint_of c h.receiver) + 1)))
 
--- the decision on a message with this head and body, of whose edits this one failed first
+-- the decision on a message with this head and body, that fails this edit first or none
 abbrev pub judged : Config → List Entry → List ℕ → ℕ → Head → List ℕ → Option Reject → Decision
-judged c es line t h body edit =
+judged c es line t h body failed =
     if not (bytes_eq h.imad.source line) then WrongSource
     else option_map_or Known (place_of (has_body h.imad body) es)
-    (option_map_or Differs (place_of (has_imad h.imad) es) (judged_new c es line t h edit))
+    (option_map_or Differs (place_of (has_imad h.imad) es) (judged_new c es line t h failed))
 
 -- a verdict that is recorded now, one that stands at a place, or a refusal that isn't recorded
 pub data Answer : Type 0 where
@@ -86,16 +84,12 @@ answer_of (Known place) = Before place
 answer_of (Differs place) = Turned x201
 answer_of WrongSource = Turned h102
 
--- a message whose identifier is none, or whose head is known
-abbrev pub verdict_of_head : Config → List Entry → List ℕ → ℕ → List ℕ → Result Head IdFault → Answer
-verdict_of_head c es line t body (Err fault) = Turned e002
-verdict_of_head c es line t body (Ok h) = answer_of (judged c es line t h body None)
+-- the verdict on a submission from a line at an effective moment
+abbrev pub verdict_on : Config → List Entry → List ℕ → ℕ → Submission → Answer
+verdict_on c es line t Strange = Turned e001
+verdict_on c es line t Unnumbered = Turned e002
+verdict_on c es line t (Numbered h body mark failed) = answer_of (judged c es line t h body failed)
 
--- a text that is no message, or one that is
-abbrev pub verdict_of_plain : Config → List Entry → List ℕ → ℕ → List ℕ → Option Plain → Answer
-verdict_of_plain c es line t body None = Turned e001
-verdict_of_plain c es line t body (Some p) = verdict_of_head c es line t body p.head
-
--- the verdict on a text from a line at an effective moment
+-- the verdict on a text
 abbrev pub verdict : Config → List Entry → List ℕ → ℕ → List ℕ → Answer
-verdict c es line t text = verdict_of_plain c es line t (body_of text) (plain_of c.env text)
+verdict c es line t text = verdict_on c es line t (submission c.env text)

@@ -1,31 +1,36 @@
 // Laws of lists of entries, the newest first, and of what a host does with a text (docs/FORMATS.md, "The order of
 // verdicts").
-ghost use Rattle.std.specs.Prelude.{◌≡◌, ◌≢◌, ◌≤◌, ◌≤ℤ◌, ◌+ℤ◌, ◌-ℤ◌, ◌&&◌, bytes_eq, if◌then◌else◌, pos, min, length, ℕ, Bool, true, List, [], ◌∷◌, Some, None, Ok, ◌↔◌};
+ghost use Rattle.std.specs.Prelude.{◌≡◌, ◌≢◌, ◌+◌, ◌<◌, ◌≤◌, ◌≤ℤ◌, ◌+ℤ◌, ◌-ℤ◌, ◌&&◌, bytes_eq, if◌then◌else◌, pos, min, length, ℕ, Bool, true, false, List, [], ◌∷◌, ◌++◌, Option, Some, None, Ok, Err, ◌==◌, ◌↔◌, IsTrue};
 ghost use Rattle.faim_base.specs.declared.ids.Imad.{Imad};
 ghost use Rattle.faim_base.specs.declared.ids.OutPos.{OutPos};
 ghost use Rattle.faim_base.specs.declared.judgement.Head.{Head};
 ghost use Rattle.faim_base.specs.declared.judgement.Reject.{Reject};
 ghost use Rattle.faim_base.specs.declared.judgement.Verdict.{Verdict};
 ghost use Rattle.faim_base.specs.declared.judgement.Verdict.TheVariants.{Refused, Taken};
-ghost use Rattle.faim_base.specs.Refusals.{e001, x201};
-ghost use Rattle.faim_message.specs.declared.judged.Plain.{Plain};
-ghost use Rattle.faim_message.specs.Plain.{body_of, plain_of};
+ghost use Rattle.faim_base.specs.Refusals.{e001, e002, h102, is_recorded, x201};
+ghost use Rattle.faim_base.specs.declared.ids.IdFault.{IdFault};
+ghost use Rattle.faim_base.specs.Numbers.{IsDay, IsMoment};
+ghost use Rattle.faim_message.specs.declared.form.Form.{Form};
+ghost use Rattle.faim_message.specs.Spelling.{Content, Spells, mark_in};
+ghost use Rattle.faim_message.specs.Heads.{head_of};
 ghost use Rattle.host_ledger.specs.declared.config.Account.{Account};
 ghost use Rattle.host_ledger.specs.declared.config.Config.{Config};
 ghost use Rattle.host_ledger.specs.declared.entries.Entry.{Entry};
 ghost use Rattle.host_ledger.specs.declared.entries.Entry.TheVariants.{Posted, Roll};
 ghost use Rattle.faim_model.specs.declared.decisions.Decision.TheVariants.{New};
 ghost use Rattle.faim_model.specs.declared.decisions.HostOutcome.TheVariants.{Known, Recorded, TurnedAway};
-ghost use Rattle.host_ledger.specs.Accounts.{floor_of};
+ghost use Rattle.host_ledger.specs.Accounts.{floor_of, has_endpoint};
+ghost use Rattle.host_ledger.specs.Ranges.{IsEntry};
 ghost use Rattle.host_ledger.specs.Soundness.{IsConfig};
 ghost use Rattle.std.specs.List.{Contains};
 ghost use Rattle.std.specs.Int.{int_min};
 ghost use Rattle.faim_model.specs.Lists.{counted, total};
 ghost use Rattle.faim_model.specs.Sums.{balance, cycle, gives, moves_money, takes};
-ghost use Rattle.faim_model.specs.Outputs.{Item, count_under, is_from, outputs, retrieved};
-ghost use Rattle.faim_model.specs.Verdicts.{judged};
-ghost use Rattle.faim_model.specs.Lawful.{Follows, IsAccepted, Lawful, last_moment, moment_of, numbers_under, one_to, times_posted};
-ghost use Rattle.faim_model.specs.Turns.{IsPost, adds_to, effective, entry_at, stays, submitted};
+ghost use Rattle.faim_model.specs.Outputs.{Item, count_under, is_from, outputs, retrieved, sent_in_cycle};
+ghost use Rattle.faim_model.specs.Submissions.{Numbered, submission};
+ghost use Rattle.faim_model.specs.Verdicts.{Before, Now, Turned, judged, verdict};
+ghost use Rattle.faim_model.specs.Lawful.{Follows, HasOther, IsAccepted, Lawful, Rises, last_moment, moment_of, numbers_under, one_to, times_posted};
+ghost use Rattle.faim_model.specs.Turns.{adds_to, effective, entry_at, stays, submitted, told_again};
 
 /// A lawful list posts each identifier at most once.
 pub fn posted_once()
@@ -85,7 +90,7 @@ pub fn moments_in_order()
 /// An accepted message is of the present cycle date and came before its cutoff, its source serves the sender's account,
 /// its output goes to the endpoint of the receiver's account with the next number of the cycle, at most 999,998, and what
 /// it moves, in cents, leaves the sender's balance no lower than its floor.
-/// A message with a new identifier, from its source's line, is accepted wherever all this holds.
+/// A message with a new identifier, from its source's line, that fails no edit is accepted wherever all this holds.
 pub fn accepted_where_allowed()
     ensures allowed { (c : Config) (older : List Entry) (h : Head) (body : List ℕ) (resent : Bool)
         (moment : ℕ) (dest : List ℕ) (seq : ℕ)
@@ -138,41 +143,117 @@ pub fn turns_stay_lawful()
         → Lawful c es → Lawful c (adds_to (submitted c es line reading text).adds es) }
 {}
 
-/// The verdict that an entry keeps stands: its text, submitted again with either mark and at any moment, is answered
+/// The verdict that an entry keeps stands: its text, submitted again with whatever mark and at any moment, is answered
 /// with that verdict, and nothing is added.
 pub fn verdict_stands()
     ensures { (c : Config) (es : List Entry) (h : Head) (body : List ℕ) (resent : Bool) (moment : ℕ)
-        (v : Verdict) (reading : ℕ) (text : List ℕ) (p : Plain) (h' : Head)
+        (v : Verdict) (reading : ℕ) (text : List ℕ) (own : Head) (mark : ℕ) (failed : Option Reject)
         → Lawful c es → Contains es (Posted h body resent moment v)
-        → plain_of c.env text ≡ Some p → p.head ≡ Ok h' → h'.imad ≡ h.imad → body_of text ≡ body
+        → submission c.env text ≡ Numbered own body mark failed → own.imad ≡ h.imad
         → submitted c es h.imad.source reading text ≡ stays (Known h.imad v) }
 {}
 
 /// Another text under the identifier of an entry is turned away, and nothing is added.
 pub fn other_text_is_turned()
     ensures { (c : Config) (es : List Entry) (h : Head) (body : List ℕ) (resent : Bool) (moment : ℕ)
-        (v : Verdict) (reading : ℕ) (text : List ℕ) (p : Plain) (h' : Head)
+        (v : Verdict) (reading : ℕ) (text : List ℕ) (own : Head) (other : List ℕ) (mark : ℕ) (failed : Option Reject)
         → Lawful c es → Contains es (Posted h body resent moment v)
-        → plain_of c.env text ≡ Some p → p.head ≡ Ok h' → h'.imad ≡ h.imad → body_of text ≢ body
+        → submission c.env text ≡ Numbered own other mark failed → own.imad ≡ h.imad → other ≢ body
         → submitted c es h.imad.source reading text ≡ stays (TurnedAway x201) }
 {}
 
-/// A text that is turned away, or whose verdict stands already, adds nothing. One whose verdict is recorded adds the
-/// entry that keeps its body, the moment and that verdict.
-pub fn turned_changes_nothing()
-    ensures turned { (c : Config) (es : List Entry) (line : List ℕ) (reading : ℕ) (text : List ℕ)
-        (why : Reject) → (submitted c es line reading text).outcome ≡ TurnedAway why
-        → (submitted c es line reading text).adds ≡ None }
-    ensures known { (c : Config) (es : List Entry) (line : List ℕ) (reading : ℕ) (text : List ℕ)
-        (imad : Imad) (v : Verdict) → (submitted c es line reading text).outcome ≡ Known imad v
-        → (submitted c es line reading text).adds ≡ None }
+/// The host's turn at a text is what the verdict on it says, at the effective moment: a new verdict is recorded as the
+/// entry that keeps the message's head and body, whether its mark was `P`, the moment and that verdict; one that stands is
+/// told again; and any other refusal changes nothing.
+pub fn turns_tell_verdicts()
     ensures recorded { (c : Config) (es : List Entry) (line : List ℕ) (reading : ℕ) (text : List ℕ)
-        (imad : Imad) (v : Verdict) → (submitted c es line reading text).outcome ≡ Recorded imad v
-        → IsPost imad (body_of text) (effective es reading) v (submitted c es line reading text).adds }
+        (h : Head) (body : List ℕ) (mark : ℕ) (failed : Option Reject) (v : Verdict)
+        → submission c.env text ≡ Numbered h body mark failed → verdict c es line (effective es reading) text ≡ Now v
+        → submitted c es line reading text
+        ≡ record { adds = Some (Posted h body (mark == 80) (effective es reading) v); outcome = Recorded h.imad v } }
+    ensures known { (c : Config) (es : List Entry) (line : List ℕ) (reading : ℕ) (text : List ℕ) (place : ℕ)
+        → verdict c es line (effective es reading) text ≡ Before place
+        → submitted c es line reading text ≡ stays (told_again (entry_at es place)) }
+    ensures turned { (c : Config) (es : List Entry) (line : List ℕ) (reading : ℕ) (text : List ℕ) (why : Reject)
+        → verdict c es line (effective es reading) text ≡ Turned why
+        → submitted c es line reading text ≡ stays (TurnedAway why) }
 {}
 
-/// The refusal E001 says that the text is no plain message, and comes for nothing else.
-pub fn strange_texts_alone_are_e001()
-    ensures { (c : Config) (es : List Entry) (line : List ℕ) (reading : ℕ) (text : List ℕ)
-        → ((submitted c es line reading text).outcome ≡ TurnedAway e001) ↔ (plain_of c.env text ≡ None) }
+/// Each entry of a lawful list that posts a message keeps an Input message as its body, with the entry's head and a blank
+/// mark.
+pub fn posted_messages_are_sound()
+    ensures { (c : Config) (es : List Entry) (h : Head) (body : List ℕ) (resent : Bool) (moment : ℕ) (v : Verdict)
+        → Lawful c es → Contains es (Posted h body resent moment v)
+        → (m : Content) × Spells m body × (m.form ≡ Form.Input) × (head_of m ≡ Ok h) × (mark_in Form.Input m.tags ≡ 32) }
+{}
+
+/// A new refusal is one that an entry may keep, and a refusal that turns a text away isn't.
+pub fn kept_refusals_are_recorded()
+    ensures kept { (c : Config) (es : List Entry) (line : List ℕ) (t : ℕ) (text : List ℕ) (why : Reject)
+        → verdict c es line t text ≡ Now (Refused why) → IsTrue (is_recorded why) }
+    ensures turned { (c : Config) (es : List Entry) (line : List ℕ) (t : ℕ) (text : List ℕ) (why : Reject)
+        → verdict c es line t text ≡ Turned why → is_recorded why ≡ false }
+{}
+
+/// When a text is turned away: with E001 exactly where it spells no Input message, with E002 exactly where it spells one
+/// whose identifier is none, with H102 exactly where its identifier's source isn't the line, and with X201 exactly where it
+/// is and an entry has the identifier with another body.
+pub fn refusals_tell_why()
+    ensures e001 { (c : Config) (es : List Entry) (line : List ℕ) (t : ℕ) (text : List ℕ)
+        → (verdict c es line t text ≡ Turned e001) ↔ ((m : Content) → Spells m text → m.form ≢ Form.Input) }
+    ensures e002 { (c : Config) (es : List Entry) (line : List ℕ) (t : ℕ) (text : List ℕ)
+        → (verdict c es line t text ≡ Turned e002)
+        ↔ ((m : Content) × (fault : IdFault) × Spells m text × (m.form ≡ Form.Input) × (head_of m ≡ Err fault)) }
+    ensures h102 { (c : Config) (es : List Entry) (line : List ℕ) (t : ℕ) (text : List ℕ)
+        (h : Head) (body : List ℕ) (mark : ℕ) (failed : Option Reject)
+        → submission c.env text ≡ Numbered h body mark failed
+        → (verdict c es line t text ≡ Turned h102) ↔ (h.imad.source ≢ line) }
+    ensures x201 { (c : Config) (es : List Entry) (line : List ℕ) (t : ℕ) (text : List ℕ)
+        (h : Head) (body : List ℕ) (mark : ℕ) (failed : Option Reject)
+        → Lawful c es → submission c.env text ≡ Numbered h body mark failed
+        → (verdict c es line t text ≡ Turned x201) ↔ ((h.imad.source ≡ line) × HasOther es h body) }
+{}
+
+/// A verdict that is told again is that of an entry with the text's identifier and body, and the body of each entry of a
+/// lawful list, submitted on its source's line, is told the verdict that the entry keeps.
+pub fn known_verdicts_are_kept()
+    ensures kept { (c : Config) (es : List Entry) (line : List ℕ) (reading : ℕ) (text : List ℕ) (imad : Imad) (v : Verdict)
+        → (submitted c es line reading text).outcome ≡ Known imad v
+        → (own : Head) × (body : List ℕ) × (mark : ℕ) × (failed : Option Reject) × (h : Head) × (resent : Bool) × (moment : ℕ)
+        × (submission c.env text ≡ Numbered own body mark failed) × (own.imad ≡ imad) × (h.imad ≡ imad)
+        × Contains es (Posted h body resent moment v) }
+    ensures told { (c : Config) (es : List Entry) (h : Head) (body : List ℕ) (resent : Bool) (moment : ℕ) (v : Verdict)
+        (reading : ℕ) → Lawful c es → Contains es (Posted h body resent moment v)
+        → submitted c es h.imad.source reading body ≡ stays (Known h.imad v) }
+{}
+
+/// The outputs of an endpoint rise in position over all dates, and none has a later date than the present cycle.
+pub fn outputs_rise()
+    ensures rise { (c : Config) (es : List Entry) (e : List ℕ) → Lawful c es → Rises (outputs c es e) }
+    ensures in_time { (c : Config) (es : List Entry) (e : List ℕ) (i : Item)
+        → Lawful c es → Contains (outputs c es e) i → i.at.date ≤ cycle c es }
+{}
+
+/// A Roll goes on to a later date, and to any such date one may follow. It gives each endpoint the end of the cycle as an
+/// output, with the next number of the date that ends; every balance stays as it was.
+pub fn rolls_end_cycles()
+    ensures later { (c : Config) (older : List Entry) (moment date : ℕ)
+        → Lawful c (Roll moment date ∷ older) → cycle c older < date }
+    ensures follows { (c : Config) (older : List Entry) (moment date : ℕ)
+        → last_moment older ≤ moment → cycle c older < date → IsDay date → Follows c older (Roll moment date) }
+    ensures output { (c : Config) (older : List Entry) (moment date : ℕ) (e : List ℕ) → has_endpoint c.accounts e ≡ true
+        → outputs c (Roll moment date ∷ older) e
+        ≡ outputs c older e ++ (record {
+          at = record { date = cycle c older; seq = sent_in_cycle c older e + 1 };
+          place = length older;
+          entry = Roll moment date;
+        }) ∷ [] }
+    ensures balance { (c : Config) (older : List Entry) (moment date : ℕ) (aba : List ℕ)
+        → balance c (Roll moment date ∷ older) aba ≡ balance c older aba }
+{}
+
+/// An entry that may follow, at a moment of the calendar, holds what an entry may hold (docs/FORMATS.md, "Entries").
+pub fn entries_that_follow_are_spelled()
+    ensures { (c : Config) (older : List Entry) (x : Entry)
+        → IsConfig c → Follows c older x → IsMoment (moment_of x) → IsEntry x }
 {}

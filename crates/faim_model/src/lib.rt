@@ -6,9 +6,11 @@ mod laws;
 
 pub use decisions::{Decision, HostOutcome};
 pub use laws::{
-    accepted_messages_alone_move_money, accepted_where_allowed, balance_moves, floors_are_kept,
-    moments_in_order, money_is_conserved, numbered_in_order, other_text_is_turned,
-    outputs_stand_at_their_places, posted_once, retrieved_up_to_sixty_four,
-    strange_texts_alone_are_e001, turn_follows, turned_changes_nothing, turns_stay_lawful,
-    verdict_stands, within_floor,
+    accepted_messages_alone_move_money, accepted_where_allowed, balance_moves,
+    entries_that_follow_are_spelled, floors_are_kept, kept_refusals_are_recorded,
+    known_verdicts_are_kept, moments_in_order, money_is_conserved, numbered_in_order,
+    other_text_is_turned, outputs_rise, outputs_stand_at_their_places, posted_messages_are_sound,
+    posted_once, refusals_tell_why, retrieved_up_to_sixty_four, rolls_alone_move_the_cycle,
+    rolls_end_cycles, turn_follows, turns_stay_lawful, turns_tell_verdicts, verdict_stands,
+    within_floor,
 };

@@ -1,7 +1,7 @@
 pub mod LineCuts
 pub mod WordCuts
 pub mod Pieces
-pub mod Posting
+pub mod Tried
 pub mod Served
 pub mod Magnitudes
 pub mod SoundScripts

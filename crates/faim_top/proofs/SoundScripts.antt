@@ -1,12 +1,13 @@
 -- The configuration of every script is sound.
-use Rattle.std.proofs.Common.{◌≡◌, ◌⊎◌, ⊎_elim, inl, inr, ℕ, zero, suc, ◌+◌, ◌<◌, ◌≤◌, Bool, true, false, List, [], ◌∷◌, ◌++◌, length, Option, Some, None, sym, ◌∙◌, refl, subst, arith}
-use Rattle.std.specs.Prelude.{◌==◌, ◌&&◌, ◌||◌, not, nat_le, Result, Ok, Err, ok_or, option_map, bytes_eq, codes, is_some, if◌then◌else◌, ℤ, pos, neg_ℤ}
+use Rattle.std.proofs.Common.{◌≡◌, ◌⊎◌, ⊎_elim, inl, inr, ℕ, zero, suc, ◌+◌, ◌*◌, ◌/◌, ◌%◌, ◌<◌, ◌≤◌, Bool, true, false, List, [], ◌∷◌, ◌++◌, length, Option, Some, None, sym, ◌∙◌, refl, subst, arith}
+use Rattle.std.specs.Prelude.{◌==◌, ◌&&◌, ◌||◌, not, nat_le, Result, Ok, Err, ok_or, option_map, option_and_then, bytes_eq, codes, is_some, if◌then◌else◌, ℤ, pos, neg_ℤ}
 use Rattle.std.proofs.lemmas.Bool.{and_parts}
 use Rattle.std.proofs.lemmas.Bool.Decides.{nat_tests}
 use Rattle.std.proofs.lemmas.Option.{cond_some}
 use Rattle.std.proofs.lemmas.Map.Keys.{IsDistinct-from_apart}
 use Rattle.std.proofs.lemmas.Slice.Eq.{bytes_eq-Decides}
 use Rattle.faim_base.specs.Calendar.{read_date}
+use Rattle.faim_base.specs.Digits.{read_number}
 use Rattle.faim_base.specs.Ids.{◌>>=◌}
 use Rattle.faim_base.specs.Numbers.{IsDay, greatest_amount}
 use Rattle.faim_base.specs.Ranges.{IsAba, IsEndpoint}
@@ -22,7 +23,7 @@ use Rattle.faim_top.specs.declared.script.Script.{Script}
 use Rattle.faim_top.specs.declared.script.ScriptFault.{ScriptFault}
 use Rattle.faim_top.specs.declared.script.Why.{Why}
 use Rattle.faim_top.specs.declared.script.Why.TheVariants.{Shape, Value, Twice, Place, Limit, Size}
-use Rattle.faim_top.specs.Fields.{env_word, date_word, cutoff_word, endpoint_word, aba_word, below_zero, cents_word, magnitude_word}
+use Rattle.faim_top.specs.Fields.{env_word, date_word, time_of, time_word, cutoff_word, endpoint_word, aba_word, below_zero, cents_word, magnitude_word}
 use Rattle.faim_top.specs.Grammar.{account_beside, account_line, account_values, account_words, accounts_from, at_line, events_from, host_line, host_values, host_words, is_begin, is_over_limit, script_from, script_in, script_of, size_limit}
 use Rattle.faim_top.specs.Lines.{lines_of, words_of}
 use Rattle.faim_top.proofs.Magnitudes.{magnitude_fits}
@@ -76,8 +77,29 @@ date_sound w d is =
     let found = chosen_some (length w == 8) (read_date w) d is in
     (date_text-read_date w d (size_is (length w) 8 found.0) found.1).1
 
+at_most : (a b : ℕ) → nat_le a b ≡ true → a ≤ b
+at_most a b le = grind (arith, nat_tests)
+
+time_fits : (n m : ℕ) → time_of n ≡ Some m → m < 1440
+time_fits n m is =
+    let found = cond_some (nat_le n 2_359 && nat_le (n % 100) 59) (60 * (n / 100) + n % 100) m is in
+    let tests = and_parts (nat_le n 2_359) (nat_le (n % 100) 59) found.0 in
+    omega (arith, found.1, at_most n 2_359 tests.0, at_most (n % 100) 59 tests.1)
+
+some_time : (o : Option ℕ) (m : ℕ) → option_and_then time_of o ≡ Some m → m < 1440
+some_time None m is = absurd cc
+some_time (Some n) m is = time_fits n m is
+
+time_sound : (w : List ℕ) (m : ℕ) → time_word w ≡ Some m → m < 1440
+time_sound w m is =
+    let found = chosen_some (length w == 4) (option_and_then time_of (read_number w)) m is in
+    some_time (read_number w) m found.1
+
 cutoff_sound : (w : List ℕ) (m : ℕ) → cutoff_word w ≡ Some m → IsCutoff m
-cutoff_sound w m is = omega (arith, (cond_some (bytes_eq w (codes "2400")) 1440 m is).1)
+cutoff_sound w m is = ⊎_elim
+    (λ end. let there : Some 1440 ≡ Some m = end.1 in let same : 1440 ≡ m = cc in omega (arith, same))
+    (λ time. let small = time_sound w m time.1 in omega (arith, small))
+    (choice (bytes_eq w (codes "2400")) (Some 1440) (time_word w) (Some m) is)
 
 endpoint_sound : (w e : List ℕ) → endpoint_word w ≡ Some e → IsEndpoint e
 endpoint_sound w e is =

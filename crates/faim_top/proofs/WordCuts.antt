@@ -2,7 +2,7 @@
 use Rattle.std.proofs.Common.{◌≡◌, ◌⊎◌, ⊎_elim, ℕ, zero, suc, ◌-◌, ◌<◌, ◌≤◌, List, [], ◌∷◌, length, get_or, map, Bor, Option, Some, None, refl, sym, ◌∙◌, ap, arith}
 use Rattle.std.specs.Prelude.{Err}
 use Rattle.faim_top.specs.declared.script.Why.TheVariants.{Shape}
-use Rattle.faim_top.specs.Grammar.{host_words, account_words}
+use Rattle.faim_top.specs.Grammar.{host_words, account_words, submit_words, retrieve_words, clock_words, clock_values}
 use Rattle.faim_top.specs.Lines.{is_blank, first_word, after, words_after, words_of}
 
 pub words_cut : (most : ℕ) (line : List ℕ) → 0 < most → words_of most line ≡ first_word line ∷ words_after (words_of (most - 1)) (after is_blank line)
@@ -34,6 +34,21 @@ host_count (a ∷ b ∷ c ∷ d ∷ []) other = refl
 host_count (a ∷ b ∷ c ∷ d ∷ e ∷ []) other = ⊎_elim (λ less. absurd (omega (arith, less))) (λ more. absurd (omega (arith, more))) other
 host_count (a ∷ b ∷ c ∷ d ∷ e ∷ f ∷ ws) other = refl
 
+pub submit_count : (ws : List (List ℕ)) → (length ws < 3) ⊎ (4 ≤ length ws) → submit_words ws ≡ Err Shape
+submit_count [] other = refl
+submit_count (a ∷ []) other = refl
+submit_count (a ∷ b ∷ []) other = refl
+submit_count (a ∷ b ∷ c ∷ []) other = ⊎_elim (λ less. absurd (omega (arith, less))) (λ more. absurd (omega (arith, more))) other
+submit_count (a ∷ b ∷ c ∷ d ∷ ws) other = refl
+
+pub retrieve_count : (ws : List (List ℕ)) → (length ws < 4) ⊎ (5 ≤ length ws) → retrieve_words ws ≡ Err Shape
+retrieve_count [] other = refl
+retrieve_count (a ∷ []) other = refl
+retrieve_count (a ∷ b ∷ []) other = refl
+retrieve_count (a ∷ b ∷ c ∷ []) other = refl
+retrieve_count (a ∷ b ∷ c ∷ d ∷ []) other = ⊎_elim (λ less. absurd (omega (arith, less))) (λ more. absurd (omega (arith, more))) other
+retrieve_count (a ∷ b ∷ c ∷ d ∷ e ∷ ws) other = refl
+
 pub account_count : (ws : List (Bor (List ℕ))) → (length ws ≡ 5 → ⊥) → account_words (map (λ w. w.now) ws) ≡ Err Shape
 account_count [] other = refl
 account_count (a ∷ []) other = refl
@@ -48,3 +63,16 @@ pub account_five : (ws : List (Bor (List ℕ))) (a b c d e : Bor (List ℕ)) →
     → account_words (map (λ w. w.now) ws) ≡ account_words (a.now ∷ b.now ∷ c.now ∷ d.now ∷ e.now ∷ [])
 account_five (v ∷ w ∷ x ∷ y ∷ z ∷ []) a b c d e five p q r s t = rw (p, q, r, s, t) refl
 account_five ws a b c d e five p q r s t = absurd (omega (arith, five))
+
+pub clock_count : (ws : List (Bor (List ℕ))) → (length ws ≡ 3 → ⊥) → clock_words (map (λ w. w.now) ws) ≡ Err Shape
+clock_count [] other = refl
+clock_count (a ∷ []) other = refl
+clock_count (a ∷ b ∷ []) other = refl
+clock_count (a ∷ b ∷ c ∷ []) other = absurd (other refl)
+clock_count (a ∷ b ∷ c ∷ d ∷ ws) other = refl
+
+-- three words, of which the second and the third are values
+pub clock_three : (ws : List (Bor (List ℕ))) (b c : Bor (List ℕ)) → length ws ≡ 3 → b ≡ get_or ws 1 b → c ≡ get_or ws 2 c
+    → clock_words (map (λ w. w.now) ws) ≡ clock_values b.now c.now
+clock_three (x ∷ y ∷ z ∷ []) b c three p q = rw (p, q) refl
+clock_three ws b c three p q = absurd (omega (arith, three))

@@ -1,16 +1,18 @@
 -- What a command answers to an input, and what stands at the end of a run.
-use Rattle.std.specs.Prelude.{◌≡◌, ◌⊎◌, ℕ, ◌≤◌, List, length, take, Option, Result, Ok, Err, IfSome}
+use Rattle.std.specs.Prelude.{◌≡◌, ◌⊎◌, ℕ, ◌+◌, ◌≤◌, List, [], length, take, Option, Some, Result, Ok, Err, IfSome}
 use Rattle.std.specs.Io.KnownBytes.{Appends, Keeps, IsAtEnd}
 use Rattle.faim_base.specs.Limits.{longest_message}
 use Rattle.faim_base.specs.declared.judgement.Refused as refusals
+use Rattle.faim_edits.specs.Printing.{table_text}
 use Rattle.faim_top.specs.declared.command.Command.{Command}
-use Rattle.faim_top.specs.declared.command.Command.TheVariants.{Check, Replay}
+use Rattle.faim_edits.specs.Printing.{table_text}
+use Rattle.faim_top.specs.declared.command.Command.TheVariants.{Check, Table, Replay}
 use Rattle.faim_top.specs.declared.script.Script.{Script}
 use Rattle.faim_top.specs.declared.script.ScriptFault.{ScriptFault}
 use Rattle.faim_top.specs.declared.status.Status.{Status}
 use Rattle.faim_top.specs.declared.status.Status.TheVariants.{Done, Usage, Refused, NoMemory, ReadFault, WriteFault}
 use Rattle.faim_top.specs.declared.status.Reason.TheVariants as reasons
-use Rattle.faim_top.specs.Checks.{IsInput, IsRefused, accepted_text, refusal_line}
+use Rattle.faim_top.specs.Checks.{IsInput, IsRefused, failed_edit, message_text, message_status, refusal_line}
 use Rattle.faim_top.specs.Grammar.{script_of, size_limit}
 use Rattle.faim_top.specs.Report.{fault_line}
 use Rattle.faim_top.specs.Replay.{report_of}
@@ -26,25 +28,46 @@ abbrev pub answer_status : Result Script ScriptFault → Status
 answer_status (Ok s) = Done
 answer_status (Err f) = Refused (reasons.Script f)
 
--- the input is a message, and it is written after a line; or it is refused, and the line that says why is written
+-- the input is a message, and it is written after a line where it fails no edit; or the line is written that says which
+-- edit it fails first, or why it is no message
 abbrev pub Checked : List ℕ → Status → List ℕ → Type 0
 Checked text status bytes =
-    (IsInput text × (status ≡ Done) × (bytes ≡ accepted_text text))
+    ((input : IsInput text) × (status ≡ message_status (failed_edit input.message)) × (bytes ≡ message_text (failed_edit input.message) text))
     ⊎ ((why : refusals.Refused) × IsRefused text why × (status ≡ Refused (reasons.Text why)) × (bytes ≡ refusal_line why))
 
 -- the command's answer to an input: how the run ends, and the bytes that are written
 abbrev pub Answers : Command → List ℕ → Status → List ℕ → Type 0
 Answers Check text status bytes = Checked text status bytes
+Answers Table text status bytes = (status ≡ Done) × (bytes ≡ table_text)
 Answers Replay text status bytes = (status ≡ answer_status (script_of text)) × (bytes ≡ answer_text (script_of text))
 
 -- the command's answer to an input has this status
 abbrev pub IsAnswered : Command → Status → List ℕ → Type 0
 IsAnswered command status text = (bytes : List ℕ) × Answers command text status bytes
 
--- how many bytes an input that a command takes may have: those of the longest message, and a script's limit
-abbrev pub limit_of : Command → ℕ
-limit_of Check = longest_message
-limit_of Replay = size_limit
+-- how many bytes of an input a command reads at most: one more than the longest message has, none, one more than a script may have
+abbrev pub most_read : Command → ℕ
+most_read Check = longest_message + 1
+most_read Table = 0
+most_read Replay = size_limit + 1
+
+-- what a command answers to, where it is known: its input, but a table needs none
+abbrev pub input_of : Command → Option (List ℕ) → Option (List ℕ)
+input_of Check left = left
+input_of Table left = Some []
+input_of Replay left = left
+
+-- a source was read to its end by a command that reads it
+abbrev pub ReadToEnd : Command → Option (List ℕ) → Type 0
+ReadToEnd Check rest = IsAtEnd rest
+ReadToEnd Table rest = Unit {0}
+ReadToEnd Replay rest = IsAtEnd rest
+
+-- a command reads its source
+abbrev pub Reads : Command → Type 0
+Reads Check = Unit {0}
+Reads Table = ⊥
+Reads Replay = Unit {0}
 
 -- the bytes of a sink, where they are known, grow by the command's answer, and it has this status
 pub record Writes (command : Command) (text : List ℕ) (status : Status) (written : Seen (Option (List ℕ))) : Type 0 where
@@ -72,9 +95,9 @@ pub record Streams : Type 0 where
 
 -- what each status of a command says of what was read and written
 abbrev pub Ended : Command → Status → Streams → Type 0
-Ended command Done s = IfSome s.left.before (λ text. Writes command text Done s.written) × IsAtEnd s.left.after
-Ended command (Refused why) s = IfSome s.left.before (λ text. Writes command text (Refused why) s.written)
-Ended command WriteFault s = IfSome s.left.before (λ text. WritesPart command text s.written)
+Ended command Done s = IfSome (input_of command s.left.before) (λ text. Writes command text Done s.written) × ReadToEnd command s.left.after
+Ended command (Refused why) s = IfSome (input_of command s.left.before) (λ text. Writes command text (Refused why) s.written)
+Ended command WriteFault s = IfSome (input_of command s.left.before) (λ text. WritesPart command text s.written)
 Ended command Usage s = ⊥
 Ended command NoMemory s = Keeps s.written.before s.written.after
-Ended command ReadFault s = Keeps s.written.before s.written.after
+Ended command ReadFault s = Reads command × Keeps s.written.before s.written.after

@@ -1,8 +1,8 @@
 -- The values of words (docs/FORMATS.md, "Scripts").
-use Rattle.std.specs.Prelude.{ℕ, ◌==◌, ◌&&◌, not, nat_le, Bool, false, List, [], ◌∷◌, length, codes, bytes_eq, Option, Some, None, option_map, if◌then◌else◌, ℤ, pos, neg_ℤ}
+use Rattle.std.specs.Prelude.{ℕ, ◌+◌, ◌*◌, ◌/◌, ◌%◌, ◌==◌, ◌&&◌, not, nat_le, Bool, false, List, [], ◌∷◌, length, codes, bytes_eq, Option, Some, None, option_map, option_and_then, if◌then◌else◌, ℤ, pos, neg_ℤ}
 use Rattle.std.specs.List.{list_all}
 use Rattle.faim_base.specs.Text.{is_digit, read_endpoint, read_aba, aba_holds}
-use Rattle.faim_base.specs.Digits.{number_of, read_seq}
+use Rattle.faim_base.specs.Digits.{number_of, read_number, read_seq}
 use Rattle.faim_base.specs.Calendar.{read_date}
 
 -- T for test, P for production
@@ -12,9 +12,16 @@ env_word w = if bytes_eq w (codes "T") then Some 84 else (if bytes_eq w (codes "
 abbrev pub date_word : List ℕ → Option ℕ
 date_word w = if length w == 8 then read_date w else None
 
--- a cutoff in minutes of the day; there is none but the day's end
+-- hours and minutes, read as one number HHMM up to 2359, as minutes of the day
+abbrev pub time_of : ℕ → Option ℕ
+time_of n = if nat_le n 2_359 && nat_le (n % 100) 59 then Some (60 * (n / 100) + n % 100) else None
+
+abbrev pub time_word : List ℕ → Option ℕ
+time_word w = if length w == 4 then option_and_then time_of (read_number w) else None
+
+-- a cutoff in minutes of the day, of which 2400 is the end
 abbrev pub cutoff_word : List ℕ → Option ℕ
-cutoff_word w = if bytes_eq w (codes "2400") then Some 1440 else None
+cutoff_word w = if bytes_eq w (codes "2400") then Some 1440 else time_word w
 
 abbrev pub endpoint_word : List ℕ → Option (List ℕ)
 endpoint_word w = if length w == 8 then read_endpoint w else None

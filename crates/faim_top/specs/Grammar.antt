@@ -1,5 +1,5 @@
 -- Which texts are scripts, and the first fault of any other (docs/FORMATS.md, "Scripts").
-use Rattle.std.specs.Prelude.{ℕ, ◌+◌, ◌==◌, ◌&&◌, ◌||◌, not, nat_le, Bool, List, [], ◌∷◌, ◌++◌, length, codes, bytes_eq, is_some, ok_or, Result, Ok, Err, if◌then◌else◌}
+use Rattle.std.specs.Prelude.{ℕ, ◌+◌, ◌*◌, ◌==◌, ◌&&◌, ◌||◌, not, nat_le, Bool, List, [], ◌∷◌, ◌++◌, length, codes, bytes_eq, is_some, ok_or, Result, Ok, Err, if◌then◌else◌}
 use Rattle.faim_base.specs.Ids.{◌>>=◌}
 use Rattle.host_ledger.specs.declared.config.Account.{Account}
 use Rattle.host_ledger.specs.declared.config.Config.{Config}
@@ -7,12 +7,12 @@ use Rattle.host_ledger.specs.Accounts.{account_in, has_endpoint, endpoints_of}
 use Rattle.host_ledger.specs.Soundness.{account_limit, endpoint_limit, operator}
 use Rattle.faim_top.specs.declared.script.Script.{Script}
 use Rattle.faim_top.specs.declared.script.Event.{Event}
-use Rattle.faim_top.specs.declared.script.Act.TheVariants.{Submit, Retrieve}
+use Rattle.faim_top.specs.declared.script.Act.TheVariants.{Clock, Submit, Retrieve}
 use Rattle.faim_top.specs.declared.script.Why.{Why}
 use Rattle.faim_top.specs.declared.script.Why.TheVariants.{Shape, Value, Twice, Place, Limit, Ended, Size}
 use Rattle.faim_top.specs.declared.script.ScriptFault.{ScriptFault}
 use Rattle.faim_top.specs.Lines.{lines_of, first_word, words_of}
-use Rattle.faim_top.specs.Fields.{env_word, date_word, cutoff_word, endpoint_word, aba_word, cents_word, seq_word}
+use Rattle.faim_top.specs.Fields.{env_word, date_word, time_word, cutoff_word, endpoint_word, aba_word, cents_word, seq_word}
 
 -- what a text may have at most, in bytes
 abbrev pub size_limit : ℕ
@@ -96,11 +96,23 @@ abbrev pub retrieve_words : List (List ℕ) → Result Event Why
 retrieve_words (name ∷ endpoint ∷ date ∷ seq ∷ []) = retrieve_values endpoint date seq
 retrieve_words words = Err Shape
 
+-- what a clock reads, as a moment
+abbrev pub clock_values : List ℕ → List ℕ → Result Event Why
+clock_values date time = do
+  d ← ok_or (date_word date) Value
+  m ← ok_or (time_word time) Value
+  Ok (record { act = Clock (1440 * d + m) })
+
+abbrev pub clock_words : List (List ℕ) → Result Event Why
+clock_words (name ∷ date ∷ time ∷ []) = clock_values date time
+clock_words words = Err Shape
+
 -- an event, by its first word
 abbrev pub event_named : List ℕ → List ℕ → Result Event Why
 event_named name line =
     if bytes_eq name (codes "submit") then submit_words (words_of 2 line)
     else if bytes_eq name (codes "retrieve") then retrieve_words (words_of 4 line)
+    else if bytes_eq name (codes "clock") then clock_words (words_of 3 line)
     else Err Shape
 
 abbrev pub event_line : List ℕ → Result Event Why

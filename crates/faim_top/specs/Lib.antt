@@ -5,7 +5,6 @@ pub mod Grammar
 pub mod Report
 pub mod Replay
 pub mod Reading
-pub mod Posting
 pub mod Checks
 pub mod Seen
 pub mod Ends

@@ -1,47 +1,66 @@
 -- What a script brings about.
-use Rattle.std.specs.Prelude.{ℕ, ◌+◌, ◌*◌, List, [], ◌∷◌, ◌++◌, length, map, ℤ}
+use Rattle.std.specs.Prelude.{ℕ, ◌+◌, ◌*◌, List, [], ◌∷◌, ◌++◌, length, map, Option, Some, None, option_map, ℤ}
 use Rattle.host_ledger.specs.declared.config.Account.{Account}
 use Rattle.host_ledger.specs.declared.config.Config.{Config}
 use Rattle.host_ledger.specs.declared.entries.Entry.{Entry}
 use Rattle.host_ledger.specs.Accounts.{endpoints_of}
+use Rattle.faim_model.specs.declared.decisions.HostOutcome.{HostOutcome}
 use Rattle.faim_model.specs.Sums.{balance, cycle}
 use Rattle.faim_model.specs.Outputs.{outputs}
 use Rattle.faim_model.specs.Turns.{HostTurn, adds_to, submitted, retrieved_turn}
 use Rattle.faim_top.specs.declared.script.Script.{Script}
 use Rattle.faim_top.specs.declared.script.Event.{Event}
 use Rattle.faim_top.specs.declared.script.Act.{Act}
-use Rattle.faim_top.specs.declared.script.Act.TheVariants.{Submit, Retrieve}
+use Rattle.faim_top.specs.declared.script.Act.TheVariants.{Clock, Submit, Retrieve}
 use Rattle.faim_top.specs.declared.outcome.Outcome.{Outcome}
 use Rattle.faim_top.specs.declared.outcome.Outcome.TheVariants.{Host}
 use Rattle.faim_top.specs.declared.outcome.Closing.{Closing}
 use Rattle.faim_top.specs.Report.{outcome_line, closing_text}
 
--- the moment of a script: the first minute of its opening date
+-- the clock's reading at first: the first minute of the opening date
 abbrev pub opening_moment : Config → ℕ
 opening_moment c = 1440 * c.date
 
--- the host's turn at what comes from an endpoint
-abbrev pub act_turn : Config → List Entry → Act → HostTurn
-act_turn c es (Submit endpoint text) = submitted c es endpoint (opening_moment c) text
-act_turn c es (Retrieve endpoint at) = retrieved_turn c es endpoint at
+-- the clock's reading after an event
+abbrev pub next_reading : ℕ → Act → ℕ
+next_reading reading (Clock moment) = moment
+next_reading reading (Submit endpoint text) = reading
+next_reading reading (Retrieve endpoint at) = reading
 
--- the host's turn at an event, with the entries before it
-abbrev pub turn_of : Config → List Entry → Event → HostTurn
-turn_of c es ev = act_turn c es ev.act
+-- the host's turn at what comes from an endpoint at the clock's reading; a clock brings it none
+abbrev pub act_turn : Config → List Entry → ℕ → Act → Option HostTurn
+act_turn c es reading (Clock moment) = None
+act_turn c es reading (Submit endpoint text) = Some (submitted c es endpoint reading text)
+act_turn c es reading (Retrieve endpoint at) = Some (retrieved_turn c es endpoint at)
 
--- the entries, the newest first, after one event more
-abbrev pub next_entries : Config → List Entry → Event → List Entry
-next_entries c es ev = adds_to (turn_of c es ev).adds es
+-- the entries, the newest first, after a turn or none
+abbrev pub after_turn : Option HostTurn → List Entry → List Entry
+after_turn None es = es
+after_turn (Some turn) es = adds_to turn.adds es
+
+-- the entries after one event more
+abbrev pub next_entries : Config → List Entry → ℕ → Event → List Entry
+next_entries c es reading ev = after_turn (act_turn c es reading ev.act) es
 
 -- the entries after all of some events
-abbrev pub entries_after : Config → List Entry → List Event → List Entry
-entries_after c es [] = es
-entries_after c es (ev ∷ events) = entries_after c (next_entries c es ev) events
+abbrev pub entries_after : Config → List Entry → ℕ → List Event → List Entry
+entries_after c es reading [] = es
+entries_after c es reading (ev ∷ events) = entries_after c (next_entries c es reading ev) (next_reading reading ev.act) events
 
--- the outcomes of events, in order
-abbrev pub outcomes_of : Config → List Entry → List Event → List Outcome
-outcomes_of c es [] = []
-outcomes_of c es (ev ∷ events) = Host (turn_of c es ev).outcome ∷ outcomes_of c (next_entries c es ev) events
+-- how a turn ended
+abbrev pub outcome_of : Option HostTurn → Option HostOutcome
+outcome_of turn = option_map (λ t. t.outcome) turn
+
+-- an outcome before others, where there is one
+abbrev pub before_others : Option HostOutcome → List Outcome → List Outcome
+before_others None others = others
+before_others (Some x) others = Host x ∷ others
+
+-- the outcomes of events, in order; a clock has none
+abbrev pub outcomes_of : Config → List Entry → ℕ → List Event → List Outcome
+outcomes_of c es reading [] = []
+outcomes_of c es reading (ev ∷ events) =
+    before_others (outcome_of (act_turn c es reading ev.act)) (outcomes_of c (next_entries c es reading ev) (next_reading reading ev.act) events)
 
 -- a line for each outcome, numbered from n on
 abbrev pub outcome_lines : ℕ → List Outcome → List ℕ
@@ -70,8 +89,8 @@ closing_of c es = record {
 
 -- the entries that a whole script makes
 abbrev pub entries_of : Script → List Entry
-entries_of s = entries_after s.config [] s.events
+entries_of s = entries_after s.config [] (opening_moment s.config) s.events
 
--- the report of a script: a line for each event, and the closing
+-- the report of a script: a line for each outcome, and the closing
 abbrev pub report_of : Script → List ℕ
-report_of s = outcome_lines 1 (outcomes_of s.config [] s.events) ++ closing_text (closing_of s.config (entries_of s))
+report_of s = outcome_lines 1 (outcomes_of s.config [] (opening_moment s.config) s.events) ++ closing_text (closing_of s.config (entries_of s))

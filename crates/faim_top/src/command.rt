@@ -14,7 +14,11 @@ pub fn words_after_name(all: &[String]) -> &[String]
 /// What the program is asked for.
 #[derive(Clone, Copy, Debug, PartialEq, Eq)]
 pub enum Command {
+    /// Whether an input is a message that fails no edit.
     Check,
+    /// The edit table in print.
+    Table,
+    /// The report of a script.
     Replay,
 }
 
@@ -29,6 +33,9 @@ impl Command {
         match words {
             [word] if word.as_str() == "check" => Some(Command::Check),
             [word] if word.as_str() == "replay" => Some(Command::Replay),
+            [word, number] if word.as_str() == "table" && number.as_str() == "1" => {
+                Some(Command::Table)
+            }
             _ => None,
         }
     }

@@ -1,6 +1,6 @@
 // The values of words (docs/FORMATS.md, "Scripts").
-ghost use Rattle.std.specs.Prelude.{◌≡◌, ◌≤◌, IfSome};
-ghost use Rattle.faim_top.specs.Fields.{env_word, date_word, cutoff_word, endpoint_word, aba_word, is_plain_number, magnitude_word, cents_word, seq_word};
+ghost use Rattle.std.specs.Prelude.{◌≡◌, ◌<◌, ◌≤◌, IfSome};
+ghost use Rattle.faim_top.specs.Fields.{env_word, date_word, time_of, time_word, cutoff_word, endpoint_word, aba_word, is_plain_number, magnitude_word, cents_word, seq_word};
 
 use faim_base::{Aba, CycleDate, Endpoint, Seq, aba_check, are_digits, array_of, digits, is_digit};
 
@@ -21,13 +21,35 @@ pub(crate) fn date_in(word: &[u8]) -> Option<CycleDate>
     CycleDate::read(&array_of(word)?)
 }
 
-// A cutoff in minutes of the day: the day's end.
+// A time of the day as minutes of it.
+pub(crate) fn time_in(word: &[u8]) -> Option<u16>
+    ensures value { result ≡ time_word word.now }
+    ensures small { IfSome result (λ m. m < 1_440) }
+{
+    if word.len() != 4 {
+        return None;
+    }
+    time_of(digits(word)?)
+}
+
+fn time_of(number: u64) -> Option<u16>
+    ensures value { result ≡ time_of number }
+    ensures small { IfSome result (λ m. m < 1_440) }
+{
+    if number <= 2_359 && number % 100 <= 59 {
+        Some((60 * (number / 100) + number % 100) as u16)
+    } else {
+        None
+    }
+}
+
+// A cutoff in minutes of the day, of which 2400 is the end.
 pub(crate) fn cutoff_in(word: &[u8]) -> Option<u16>
     ensures { result ≡ cutoff_word word.now }
 {
     match word {
         b"2400" => Some(1_440),
-        _ => None,
+        _ => time_in(word),
     }
 }
 

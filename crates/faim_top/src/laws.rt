@@ -8,7 +8,9 @@ ghost use Rattle.faim_top.specs.Ends.{Answers, IsAnswered};
 ghost use Rattle.faim_top.specs.Grammar.{script_of};
 ghost use Rattle.faim_top.specs.Promises.{KeepsPromises};
 
-use faim_message::{each_input_is_judged, one_refusal, spelled_is_not_refused};
+use faim_message::{
+    each_input_is_judged, one_refusal, one_spelling_of_messages, spelled_is_not_refused,
+};
 use faim_model::{
     floors_are_kept, money_is_conserved, numbered_in_order, other_text_is_turned, posted_once,
     turns_stay_lawful, verdict_stands,
@@ -26,7 +28,7 @@ pub fn scripts_are_sound()
 /// Whatever a script submits, in whatever order and how often: after each event no two entries share an identifier, the
 /// balances add up to the openings and none is lower than its floor or its opening, the output numbers of each endpoint
 /// under each date run from 1 without gaps, a known message is answered with the verdict that stands, and another text
-/// under its identifier is turned away.
+/// under its identifier is turned away. The list of which the report tells is one of these.
 pub fn promises_kept()
     ensures { (s : Script) → IsConfig s.config → KeepsPromises s }
 {
@@ -45,6 +47,7 @@ pub fn inputs_have_one_answer()
     ensures one { (c : Command) (text : List ℕ) (s t : Status) (a b : List ℕ) → Answers c text s a → Answers c text t b → (s ≡ t) × (a ≡ b) }
 {
     each_input_is_judged();
+    one_spelling_of_messages();
     spelled_is_not_refused();
     one_refusal();
 }

@@ -17,7 +17,6 @@ mod streams;
 #[cfg(test)]
 mod tests;
 mod top;
-mod turns;
 
 pub use command::{Command, words_after_name};
 pub use laws::{inputs_have_one_answer, promises_kept, scripts_are_sound};

@@ -1,16 +1,14 @@
 // Plays a script against a host in memory (docs/FORMATS.md, "The report").
 ghost use Rattle.std.specs.Prelude.{◌≡◌, ◌++◌, IfOk, OnOk};
 ghost use Rattle.host_ledger.specs.Soundness.{IsConfig};
-ghost use Rattle.faim_model.specs.Turns.{adds_to, submitted};
-ghost use Rattle.faim_top.specs.Replay.{act_turn, entries_after, outcomes_of, outcome_lines, closing_of, balances_of, output_counts, opening_moment, report_of};
+ghost use Rattle.faim_top.specs.Replay.{act_turn, after_turn, outcome_of, next_reading, entries_after, outcomes_of, outcome_lines, closing_of, balances_of, output_counts, opening_moment, report_of};
 
-use crate::turns::{retrieve, submit};
 use crate::{Act, Balances, Closing, Counts, Event, Outcome, Script, print_closing, print_outcome};
 use faim_base::{Endpoint, Moment, NoMemory};
-use faim_message::plain;
 use faim_model::HostOutcome;
 use host_core::HostState;
 use host_ledger::{Account, Config, endpoints_of};
+use host_node::{retrieve, submit};
 use std::alloc::Global;
 
 // The report of a script.
@@ -21,59 +19,73 @@ pub(crate) fn report(alloc: Global, script: Script) -> Result<Vec<u8>, NoMemory>
     let Script { config, events } = script;
     let mut state = HostState::new(alloc, config)?;
     let mut out = Vec::new(alloc);
-    play(alloc, &mut state, events.as_slice(), &mut out)?;
+    let opening = first_minute(state.config());
+    play(alloc, &mut state, opening, events.as_slice(), &mut out)?;
     let closing = closing(alloc, &state)?;
     print_closing(alloc, &closing, &mut out)?;
     Ok(out)
 }
 
-// Plays the events in order, and prints a line for each.
+// Plays the events in order, the clock reading this moment at first, and prints a line for each outcome.
 fn play(
     alloc: Global,
     state: &mut HostState,
+    opening: Moment,
     events: &[Event],
     out: &mut Vec<u8>,
 ) -> Result<(), NoMemory>
     ensures config { OnOk result (state.new.config ≡ state.old.config) }
-    ensures entries { OnOk result (state.new.entries ≡ entries_after state.old.config state.old.entries events.now) }
-    ensures lines { OnOk result (out.new.items ≡ out.old.items ++ outcome_lines 1 (outcomes_of state.old.config state.old.entries events.now)) }
+    ensures entries { OnOk result (state.new.entries ≡ entries_after state.old.config state.old.entries opening events.now) }
+    ensures lines { OnOk result (out.new.items ≡ out.old.items ++ outcome_lines 1 (outcomes_of state.old.config state.old.entries opening events.now)) }
 {
+    let mut reading = opening;
     let mut number = 1;
     for event in events {
-        let outcome = act(alloc, state, &event.act)?;
-        print_outcome(alloc, number, &Outcome::Host(outcome), out)?;
-        number += 1;
+        match act(alloc, state, reading, &event.act)? {
+            Some(outcome) => {
+                print_outcome(alloc, number, &Outcome::Host(outcome), out)?;
+                number += 1;
+            }
+            None => {}
+        }
+        reading = next_reading(reading, &event.act);
     }
     Ok(())
 }
 
-// What one event brings about.
-fn act(alloc: Global, state: &mut HostState, act: &Act) -> Result<HostOutcome, NoMemory>
+// What one event brings about at the clock's reading: nothing where it sets the clock.
+fn act(
+    alloc: Global,
+    state: &mut HostState,
+    reading: Moment,
+    act: &Act,
+) -> Result<Option<HostOutcome>, NoMemory>
     ensures config { OnOk result (state.new.config ≡ state.old.config) }
-    ensures outcome { IfOk result (λ x. x ≡ (act_turn state.old.config state.old.entries act.now).outcome) }
-    ensures entries { OnOk result (state.new.entries ≡ adds_to (act_turn state.old.config state.old.entries act.now).adds state.old.entries) }
+    ensures outcome { IfOk result (λ x. x ≡ outcome_of (act_turn state.old.config state.old.entries reading act.now)) }
+    ensures entries { OnOk result (state.new.entries ≡ after_turn (act_turn state.old.config state.old.entries reading act.now) state.old.entries) }
 {
     match act {
-        Act::Submit { line, text } => submit_now(alloc, state, *line, text.as_slice()),
-        Act::Retrieve { line, at } => retrieve(state, *line, *at),
+        Act::Clock(_) => Ok(None),
+        Act::Submit { line, text } => {
+            let submitted = submit(alloc, state, *line, reading, text.as_slice())?;
+            Ok(Some(submitted))
+        }
+        Act::Retrieve { line, at } => {
+            let retrieved = retrieve(state, *line, *at)?;
+            Ok(Some(retrieved))
+        }
     }
 }
 
-// A text is submitted in the first minute of the opening date.
-fn submit_now(
-    alloc: Global,
-    state: &mut HostState,
-    endpoint: Endpoint,
-    text: &[u8],
-) -> Result<HostOutcome, NoMemory>
-    ensures config { state.new.config ≡ state.old.config }
-    ensures outcome { IfOk result (λ x. x ≡ (submitted state.old.config state.old.entries endpoint (opening_moment state.old.config) text.now).outcome) }
-    ensures entries { OnOk result (state.new.entries ≡ adds_to (submitted state.old.config state.old.entries endpoint (opening_moment state.old.config) text.now).adds state.old.entries) }
+// The clock's reading after an event.
+fn next_reading(reading: Moment, act: &Act) -> Moment
+    ensures { result ≡ next_reading reading act.now }
 {
-    let config = state.config();
-    let moment = first_minute(config);
-    let message = plain(text, config.env);
-    submit(alloc, state, endpoint, moment, text, message)
+    match act {
+        Act::Clock(moment) => *moment,
+        Act::Submit { .. } => reading,
+        Act::Retrieve { .. } => reading,
+    }
 }
 
 // The first minute of the opening date.

@@ -1,18 +1,18 @@
 // Reads scripts, line by line (docs/FORMATS.md, "Scripts").
-ghost use Rattle.std.specs.Prelude.{◌≡◌, ◌+◌, [], ◌≤◌, length, map, bytes_eq, Ok, Err, IfOk, if◌then◌else◌};
+ghost use Rattle.std.specs.Prelude.{◌≡◌, ◌+◌, ◌*◌, [], ◌<◌, ◌≤◌, length, map, bytes_eq, Ok, Err, IfOk, if◌then◌else◌};
 ghost use Rattle.host_ledger.specs.Soundness.{IsConfig};
 ghost use Rattle.faim_top.specs.declared.script.Why.TheVariants.{Shape};
 ghost use Rattle.faim_top.specs.Lines.{lines_of, words_of};
-ghost use Rattle.faim_top.specs.Grammar.{host_values, host_line, account_values, account_words, account_line, submit_values, retrieve_values, submit_words, retrieve_words, event_named, event_line, script_from, accounts_from, script_of, size_limit, is_begin};
+ghost use Rattle.faim_top.specs.Grammar.{host_values, host_line, account_values, account_words, account_line, submit_values, retrieve_values, clock_values, submit_words, retrieve_words, clock_words, event_named, event_line, script_from, accounts_from, script_of, size_limit, is_begin};
 ghost use Rattle.faim_top.specs.Reading.{ReadsLine, ReadsText};
 ghost use Rattle.host_ledger.specs.Accounts.{endpoints_of};
 
 use crate::accounts::stands_beside;
-use crate::fields::{aba_in, cents_in, cutoff_in, date_in, endpoint_in, env_in, seq_in};
+use crate::fields::{aba_in, cents_in, cutoff_in, date_in, endpoint_in, env_in, seq_in, time_in};
 use crate::lines::{split_line, split_word, words};
 use crate::script::LineRefused;
 use crate::{Act, Event, Events, Script, ScriptRefused, Why, scripts_are_sound};
-use faim_base::{Bytes, Endpoint, Endpoints, OutPos};
+use faim_base::{Bytes, CycleDate, Endpoint, Endpoints, Moment, OutPos};
 use host_ledger::{Account, Accounts, Config, add_endpoint};
 use std::alloc::Global;
 
@@ -215,9 +215,13 @@ fn event_named(alloc: Global, name: &[u8], line: &[u8]) -> Result<Event, LineRef
     if name == b"retrieve".as_slice() {
         return retrieve_line(alloc, line);
     }
+    if name == b"clock".as_slice() {
+        return clock_line(alloc, line);
+    }
     Err(LineRefused::Fault(Why::Shape))
 }
 
+#[tactic(auto, using(crate::proofs::WordCuts::submit_count))]
 fn submit_line(alloc: Global, line: &[u8]) -> Result<Event, LineRefused>
     ensures { ReadsLine result (submit_words (words_of 2 line.now)) }
 {
@@ -242,6 +246,7 @@ fn submit_values(alloc: Global, endpoint: &[u8], text: &[u8]) -> Result<Event, L
     })
 }
 
+#[tactic(auto, using(crate::proofs::WordCuts::retrieve_count))]
 fn retrieve_line(alloc: Global, line: &[u8]) -> Result<Event, LineRefused>
     ensures { ReadsLine result (retrieve_words (words_of 4 line.now)) }
 {
@@ -264,4 +269,41 @@ fn retrieve_values(endpoint: &[u8], date: &[u8], seq: &[u8]) -> Result<Event, Wh
             at: OutPos { date, seq },
         },
     })
+}
+
+fn clock_line(alloc: Global, line: &[u8]) -> Result<Event, LineRefused>
+    ensures { ReadsLine result (clock_words (words_of 3 line.now)) }
+{
+    let words = words(alloc, line, 3)?;
+    Ok(clock_in(words.as_slice())?)
+}
+
+#[tactic(auto, using(crate::proofs::WordCuts::clock_count, crate::proofs::WordCuts::clock_three))]
+fn clock_in(words: &[&[u8]]) -> Result<Event, Why>
+    ensures { result ≡ clock_words (map (λ w. w.now) words.now) }
+{
+    if words.len() != 3 {
+        return Err(Why::Shape);
+    }
+    clock_values(words[1], words[2])
+}
+
+fn clock_values(date: &[u8], time: &[u8]) -> Result<Event, Why>
+    ensures { result ≡ clock_values date.now time.now }
+{
+    let date = date_in(date).ok_or(Why::Value)?;
+    match time_in(time) {
+        Some(minute) => Ok(Event {
+            act: Act::Clock(moment_at(date, minute)),
+        }),
+        None => Err(Why::Value),
+    }
+}
+
+// The moment at a minute of a day.
+fn moment_at(date: CycleDate, minute: u16) -> Moment
+    requires { minute < 1_440 }
+    ensures { result ≡ 1440 * date + minute }
+{
+    Moment::new(1_440 * date.get() + u32::from(minute)).unwrap()
 }

@@ -1,10 +1,12 @@
 // Scripts (docs/FORMATS.md, "Scripts").
-use faim_base::{Bytes, Endpoint, Items, NoMemory, OutPos};
+use faim_base::{Bytes, Endpoint, Items, Moment, NoMemory, OutPos};
 use host_ledger::Config;
 
 /// What happens at an event.
 #[derive(Debug, Drop)]
 pub enum Act {
+    /// The clock reads this moment, from here on. It brings about nothing, and no line of the report tells of it.
+    Clock(Moment),
     /// A text, of at most 8,192 bytes, is submitted on the line of an endpoint.
     Submit { line: Endpoint, text: Bytes },
     /// An endpoint asks for its outputs from a position on.
@@ -17,7 +19,7 @@ pub struct Event {
     pub act: Act,
 }
 
-/// A list of events, numbered from 1.
+/// A list of events. Those that aren't `Clock` are numbered from 1.
 pub type Events = Items<Event>;
 
 /// A configuration, and what happens to a host that has it.

@@ -5,6 +5,7 @@ ghost use Rattle.faim_top.specs.ExitCodes.{code_of, error_line_of, status_withou
 
 use crate::ScriptFault;
 use faim_base::Refused;
+use faim_edits::EditNo;
 use std::io::ErrorKind;
 
 /// Why an input was refused.
@@ -12,6 +13,8 @@ use std::io::ErrorKind;
 pub enum Reason {
     /// The bytes are no message; never for want of memory.
     Text(Refused),
+    /// The message fails this edit first, of table 1.
+    Edit(EditNo),
     /// The text isn't a script.
     Script(ScriptFault),
 }
@@ -19,7 +22,7 @@ pub enum Reason {
 /// How a run ends.
 #[derive(Clone, Copy, Debug, PartialEq, Eq)]
 pub enum Status {
-    /// The input was read to its end, and what was asked for is written.
+    /// The input, where the command has one, was read to its end, and what was asked for is written.
     Done,
     /// The words are no command. Nothing was read or written.
     Usage,

@@ -26,6 +26,7 @@ pub(crate) fn read_up_to<I: Source>(
 ) -> Result<Bytes, ReadEnd>
     ensures all { IfOk result (λ b. Consumes (I.left input.old) (I.left input.new) b × (IsAtEnd (I.left input.new) ⊎ (length b ≡ most))) }
     ensures few { LosesAtMost most (seen I.left input.old input.new) }
+    ensures asked { result ≡ Err ReadEnd.Failed → 0 < most }
     ensures faults { CountsFaults (result ≡ Err ReadEnd.Failed) (seen I.read_faults input.old input.new) }
 {
     let mut all = Bytes::new(alloc);

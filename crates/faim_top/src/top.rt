@@ -1,11 +1,11 @@
 // The top call.
-ghost use Rattle.std.specs.Prelude.{◌≡◌, ◌≢◌, ◌↔◌, ◌+◌, IsNone, IfSome, IfOk};
+ghost use Rattle.std.specs.Prelude.{◌≡◌, ◌≢◌, ◌↔◌, IsNone, IfSome, IfOk};
 ghost use Rattle.std.specs.Io.KnownBytes.{Keeps};
 ghost use Rattle.site_core.specs.Counts.{Rose};
 ghost use Rattle.faim_top.specs.Words.{command_of, texts};
 ghost use Rattle.faim_top.specs.Grammar.{script_of};
 ghost use Rattle.faim_top.specs.Seen.{CountsFaults, LosesAtMost, seen};
-ghost use Rattle.faim_top.specs.Ends.{Ended, IsAnswered, limit_of};
+ghost use Rattle.faim_top.specs.Ends.{Ended, IsAnswered, input_of, most_read};
 ghost use Rattle.faim_top.specs.Promises.{KeepsPromises};
 
 use crate::answers::answer_to;
@@ -33,8 +33,8 @@ pub fn run<I: Source, O: Sink>(
     ensures ended { IfSome (command_of (texts words.now)) (λ command.
         Ended command result (record { left = seen I.left input.old input.new; written = seen O.written out.old out.new })) }
 
-    // No more is read than one byte beyond what the command takes.
-    ensures few { IfSome (command_of (texts words.now)) (λ command. LosesAtMost (limit_of command + 1) (seen I.left input.old input.new)) }
+    // No more is read than one byte beyond what the command takes; for a table nothing is.
+    ensures few { IfSome (command_of (texts words.now)) (λ command. LosesAtMost (most_read command) (seen I.left input.old input.new)) }
 
     // Each object's fault comes exactly where it counted one in this call.
     ensures input_faults { CountsFaults (result ≡ Status.ReadFault) (seen I.read_faults input.old input.new) }
@@ -42,7 +42,7 @@ pub fn run<I: Source, O: Sink>(
 
     // Where none was counted and memory is there, the status is that of the command's answer to a known input.
     ensures complete { (Rose (I.read_faults input.old) (I.read_faults input.new) → ⊥) → (Rose (O.write_faults out.old) (O.write_faults out.new) → ⊥)
-        → result ≢ Status.NoMemory → IfSome (command_of (texts words.now)) (λ command. IfSome (I.left input.old) (IsAnswered command result)) }
+        → result ≢ Status.NoMemory → IfSome (command_of (texts words.now)) (λ command. IfSome (input_of command (I.left input.old)) (IsAnswered command result)) }
 
     // The list of entries, after each event of the script.
     ensures promises { result ≡ Status.Done → IfSome (I.left input.old) (λ text. IfOk (script_of text) KeepsPromises) }
@@ -56,6 +56,7 @@ pub fn run<I: Source, O: Sink>(
 }
 
 // Reads the input of a command, and writes the answer to it.
+#[tactic(auto, using(crate::proofs::Endings::reads_some))]
 fn carry_out<I: Source, O: Sink>(
     alloc: Global,
     command: Command,
@@ -63,11 +64,11 @@ fn carry_out<I: Source, O: Sink>(
     out: &mut O,
 ) -> Status
     ensures ended { Ended command result (record { left = seen I.left input.old input.new; written = seen O.written out.old out.new }) }
-    ensures few { LosesAtMost (limit_of command + 1) (seen I.left input.old input.new) }
+    ensures few { LosesAtMost (most_read command) (seen I.left input.old input.new) }
     ensures input_faults { CountsFaults (result ≡ Status.ReadFault) (seen I.read_faults input.old input.new) }
     ensures output_faults { CountsFaults (result ≡ Status.WriteFault) (seen O.write_faults out.old out.new) }
     ensures complete { (Rose (I.read_faults input.old) (I.read_faults input.new) → ⊥) → (Rose (O.write_faults out.old) (O.write_faults out.new) → ⊥)
-        → result ≢ Status.NoMemory → IfSome (I.left input.old) (IsAnswered command result) }
+        → result ≢ Status.NoMemory → IfSome (input_of command (I.left input.old)) (IsAnswered command result) }
 {
     spellings_are_short();
     let text = match read_up_to(alloc, input, most_of(command)) {
@@ -87,10 +88,11 @@ fn carry_out<I: Source, O: Sink>(
 
 // How many bytes are enough to answer: one more than the command takes.
 fn most_of(command: Command) -> usize
-    ensures { result ≡ limit_of command + 1 }
+    ensures { result ≡ most_read command }
 {
     match command {
         Command::Check => LONGEST_MESSAGE + 1,
+        Command::Table => 0,
         Command::Replay => SIZE_LIMIT + 1,
     }
 }

@@ -1,4 +1,3 @@
 mod Payment
 pub mod Places
-pub mod Posted
 pub mod Retrieval

@@ -1,9 +1,11 @@
 -- A payment on the day of two banks, as the first entry of its host.
 use Rattle.std.proofs.Common.{◌≡◌, ℕ, List, [], ◌∷◌, refl, sym, subst, inl, lit≤}
-use Rattle.std.specs.Prelude.{codes, pos, false}
+use Rattle.std.specs.Prelude.{codes, pos, false, None}
 use Rattle.faim_base.specs.declared.judgement.Head.{Head}
 use Rattle.faim_base.specs.declared.judgement.Verdict.TheVariants.{Taken}
 use Rattle.faim_base.specs.Calendar.{days_of_months, days_of_years}
+use Rattle.faim_message.specs.Forms.{permitted}
+use Rattle.faim_tags.specs.Layouts.{row_of}
 use Rattle.host_ledger.specs.declared.config.Config.{Config}
 use Rattle.host_ledger.specs.declared.entries.Entry.{Entry}
 use Rattle.host_ledger.specs.declared.entries.Entry.TheVariants.{Posted}
@@ -38,8 +40,8 @@ abbrev pub first : Entry
 first = Posted paid text false 12624480 (Taken (codes "BANKB001") 1)
 
 first_follows : PostFollows day [] paid text false 12624480 (Taken (codes "BANKB001") 1)
-unfolding days_of_months days_of_years
-first_follows = record { in_time = lit≤ tt; spelled = refl; mark = 32; marked = inl refl; judged = refl }
+unfolding days_of_months days_of_years row_of permitted
+first_follows = record { in_time = lit≤ tt; failed = None; spelled = refl; mark = 32; marked = inl refl; judged = refl }
 
 pub follows_as : (s : State) (x : Entry) → s ≡ record { config = day; entries = [] } → x ≡ first → Follows s.config s.entries x
 follows_as s x es ex =

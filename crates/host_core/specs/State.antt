@@ -1,25 +1,21 @@
 -- What a host knows: its configuration and its entries, the newest first.
-use Rattle.std.specs.Prelude.{List, [], ◌∷◌, Bool, true, false, Option, Some, None}
-use Rattle.std.specs.List.{list_all}
-use Rattle.faim_base.specs.declared.ids.OutPos.{OutPos}
+use Rattle.std.specs.Prelude.{ℕ, nat_le, List, [], ◌∷◌, Option, Some, None, if◌then◌else◌}
 use Rattle.faim_model.specs.Outputs.{Item}
+use Rattle.faim_model.specs.Sums.{cycle}
 use Rattle.host_ledger.specs.declared.config.Config.{Config}
 use Rattle.host_ledger.specs.declared.entries.Entry.{Entry}
-use Rattle.host_ledger.specs.declared.entries.Entry.TheVariants.{Posted, Roll}
+use Rattle.host_core.specs.declared.rolls.RollCase.{RollCase}
+use Rattle.host_core.specs.declared.rolls.RollCase.TheVariants.{Later, NotLater}
 
 pub record State : Type 0 where
   pub config : Config
   pub entries : List Entry
 
-abbrev pub is_posted : Entry → Bool
-is_posted (Posted h body resent moment v) = true
-is_posted (Roll moment date) = false
+-- a Roll goes on to a date that is later than the present cycle, and to no other
+abbrev pub roll_case : Config → List Entry → ℕ → RollCase
+roll_case c es date = if nat_le date (cycle c es) then NotLater (cycle c es) else Later
 
--- each entry posts a message
-abbrev pub are_posted : List Entry → Bool
-are_posted es = list_all is_posted es
-
--- the position of the first item
-abbrev pub position_in : List Item → Option OutPos
-position_in [] = None
-position_in (i ∷ items) = Some i.at
+-- the date of the first item
+abbrev pub date_in : List Item → Option ℕ
+date_in [] = None
+date_in (i ∷ items) = Some i.at.date

@@ -2,6 +2,7 @@
 #![tactic(auto)]
 
 mod outputs;
+mod rolls;
 mod search;
 mod state;
 #[cfg(test)]
@@ -10,4 +11,5 @@ mod totals;
 mod verdict;
 
 pub use faim_model::{Decision, HostOutcome};
+pub use rolls::RollCase;
 pub use state::{HostState, Judged};

@@ -6,10 +6,12 @@ ghost use Rattle.host_ledger.specs.Soundness.{IsConfig};
 ghost use Rattle.faim_model.specs.Sums.{balance, cycle};
 ghost use Rattle.faim_model.specs.Outputs.{outputs, retrieved, places_of};
 ghost use Rattle.faim_model.specs.Verdicts.{judged};
-ghost use Rattle.faim_model.specs.Lawful.{Follows, moment_of};
+ghost use Rattle.faim_model.specs.Lawful.{Follows, Lawful, moment_of};
 ghost use Rattle.faim_model.specs.Turns.{effective, entry_at};
+ghost use Rattle.host_core.specs.State.{roll_case};
 
 use crate::outputs::{count_outputs, outputs_from};
+use crate::rolls::RollCase;
 use crate::search::{place_of_body, place_of_imad};
 use crate::totals::{balance_of, cycle_after};
 use crate::verdict::verdict_on;
@@ -40,15 +42,15 @@ pub struct HostState {
 }
 
 impl Model for HostState {
-    ghost use Rattle.std.specs.Prelude.{IsTrue};
     ghost use Rattle.host_ledger.specs.Soundness.{IsConfig};
-    ghost use Rattle.host_core.specs.State.{State, are_posted};
+    ghost use Rattle.faim_model.specs.Lawful.{Lawful};
+    ghost use Rattle.host_core.specs.State.{State};
 
     ghost Value = { State };
 
     ghost view = { λ s. record { config = s.config; entries = s.entries } };
 
-    ghost invariant = { λ s. IsConfig s.config × IsTrue (are_posted s.entries) };
+    ghost invariant = { λ s. IsConfig s.config × Lawful s.config s.entries };
 }
 
 impl HostState {
@@ -64,10 +66,11 @@ impl HostState {
         })
     }
 
-    /// The configuration. It is sound.
+    /// The configuration. It is sound, and the entries are a lawful list under it (docs/MODEL.md, "Lists of entries").
     pub fn config(&self) -> &Config
         ensures value { result.now ≡ self.now.config }
         ensures sound { IsConfig self.now.config }
+        ensures lawful { Lawful self.now.config self.now.entries }
     {
         &self.config
     }
@@ -100,6 +103,19 @@ impl HostState {
             return Decision::Differs(place);
         }
         Decision::New(verdict_on(&self.config, entries, line, head, message.edit, moment))
+    }
+
+    /// What becomes of a Roll to a date: `NotLater` exactly where the date is at or before the present cycle date
+    /// (docs/FORMATS.md, "The order of verdicts"). It takes no memory and changes nothing.
+    pub fn roll_case(&self, date: CycleDate) -> RollCase
+        ensures { result ≡ roll_case self.now.config self.now.entries date }
+    {
+        let current = self.cycle();
+        if date <= current {
+            RollCase::NotLater { current }
+        } else {
+            RollCase::Later
+        }
     }
 
     /// Appends an entry that may come next. At `NoMemory` everything is as it was.

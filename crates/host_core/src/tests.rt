@@ -150,6 +150,84 @@ fn a_posted_payment_is_given_to_its_receiver(rt: HostRuntime) -> Result<(), Fail
     Ok(())
 }
 
+#[test]
+fn a_roll_goes_on_to_a_later_date(rt: HostRuntime) -> Result<(), Fail> {
+    let mut state = HostState::new(rt.alloc(), config(rt.alloc())?)?;
+    let current = date(8767)?;
+    assert_eq!(rt;
+        state.roll_case(date(8766)?),
+        RollCase::NotLater { current }
+    );
+    assert_eq!(rt; state.roll_case(current), RollCase::NotLater { current });
+    assert_eq!(rt; state.roll_case(date(8768)?), RollCase::Later);
+    roll(&mut state, moment(12_624_480)?, date(8770)?)?;
+    assert_eq!(rt; state.cycle().get(), 8770);
+    assert_eq!(rt; state.outputs(bank(b"BANKA001")?), 1);
+    Ok(())
+}
+
+#[test]
+fn a_roll_ends_the_cycle_of_each_endpoint(rt: HostRuntime) -> Result<(), Fail> {
+    let (mut state, entry) = opened(rt.alloc())?;
+    state.push(entry)?;
+    roll(&mut state, moment(12_625_919)?, date(8768)?)?;
+    assert_eq!(rt; state.len(), 2);
+    assert_eq!(rt; state.balance(&account(&PAYER)?), Some(850_000));
+    let cases: [(&[u8; 8], &[u8; 14], &[usize]); 7] = [
+        (b"BANKA001", b"20240102000001", &[1]),
+        (b"BANKA001", b"20240102000002", &[]),
+        (b"BANKB001", b"20240102000001", &[0, 1]),
+        (b"BANKB001", b"20240102000002", &[1]),
+        (b"BANKB001", b"20240102000003", &[]),
+        (b"BANKB001", b"20240103000001", &[]),
+        (b"NOBANK01", b"20240102000001", &[]),
+    ];
+    for (name, from, places) in cases {
+        let at = OutPos::read(from).ok_or("a position")?;
+        let found = state.retrieve(bank(name)?, at)?;
+        assert!(rt; found.as_slice() == places);
+    }
+    Ok(())
+}
+
+#[test]
+fn a_new_cycle_numbers_from_one(rt: HostRuntime) -> Result<(), Fail> {
+    let (mut state, entry) = opened(rt.alloc())?;
+    state.push(entry)?;
+    roll(&mut state, moment(12_625_919)?, date(8768)?)?;
+    let late = Decision::New(Verdict::Refused(Reject {
+        category: b'H',
+        code: 101,
+    }));
+    let first = Decision::New(Verdict::Taken {
+        dest: bank(b"BANKA001")?,
+        seq: number(1)?,
+    });
+    let cases: [(&[Change], Decision); 3] = [
+        (&[], Decision::Known(0)),
+        (&[Day(8769)], late),
+        (
+            &[Day(8768), Receiver(PAYER), Subtype(31), Minute(1440)],
+            first,
+        ),
+    ];
+    for (changes, want) in cases {
+        assert_eq!(rt; decided(&state, &changed(changes)?, TEXT), want);
+    }
+    Ok(())
+}
+
+// The host goes on to a date, where it may.
+fn roll(state: &mut HostState, moment: Moment, date: CycleDate) -> Result<(), Fail> {
+    if state.effective(moment) != moment {
+        return Err(Fail::from("an entry that is later"));
+    }
+    match state.roll_case(date) {
+        RollCase::Later => Ok(state.push(Entry::Roll { moment, date })?),
+        RollCase::NotLater { .. } => Err(Fail::from("a later date")),
+    }
+}
+
 // What the host decides on a case of this text.
 fn decided(state: &HostState, case: &Case, body: &[u8]) -> Decision {
     let message = Judged {

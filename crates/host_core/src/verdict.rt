@@ -1,12 +1,11 @@
 // The verdict on a message that is new.
-ghost use Rattle.std.specs.Prelude.{◌≡◌, ◌+◌, ◌*◌, nat_le, reverse, IsTrue, ◌^◌, pos, neg_ℤ, ◌-ℤ◌, ◌≤ℤ◌, int_lt, Some};
+ghost use Rattle.std.specs.Prelude.{◌≡◌, ◌+◌, ◌*◌, nat_le, reverse, ◌^◌, pos, neg_ℤ, ◌-ℤ◌, ◌≤ℤ◌, int_lt, Some};
 ghost use Rattle.faim_base.specs.declared.judgement.Verdict.TheVariants.{Refused};
 ghost use Rattle.faim_base.specs.Refusals.{refusal};
 ghost use Rattle.faim_model.specs.declared.decisions.Decision.TheVariants.{New};
 ghost use Rattle.host_ledger.specs.declared.config.Config.{Config};
 ghost use Rattle.host_ledger.specs.Accounts.{account_of};
 ghost use Rattle.faim_model.specs.Verdicts.{judged_new, is_below_floor, is_customer};
-ghost use Rattle.host_core.specs.State.{are_posted};
 
 use crate::outputs::count_under;
 use crate::totals::{balance_of, cycle_after, moves_money};
@@ -25,7 +24,6 @@ pub(crate) fn verdict_on(
     edit: Option<Reject>,
     moment: Moment,
 ) -> Verdict
-    requires { IsTrue (are_posted (reverse entries.now)) }
     ensures { New result ≡ judged_new config.now (reverse entries.now) line moment head.now edit }
 {
     let cycle = cycle_after(config, entries);

@@ -3,7 +3,7 @@ use faim_base::{Aba, Cents, CycleDate, Endpoint, Head, IdFault, Imad, Refused, S
 use std::alloc::Global;
 use std::test::Fail;
 
-const PLAIN: &[u8] =
+const TRANSFER: &[u8] =
     b"{1500}30USERREQ1T {1510}1000{1520}20240102BANKA001000001{2000}000000150000{3100}021000021ALPHA BANK*{3400}121042882BETA BANK*{3600}BTR";
 
 // The identifier of that message.
@@ -39,7 +39,7 @@ fn read_again(alloc: Global, bytes: &[u8], form: Form) -> Result<bool, Refused> 
 #[test]
 fn submissions_are_read_and_written_again(rt: HostRuntime) {
     let cases: [&[u8]; 4] = [
-        PLAIN,
+        TRANSFER,
         b"{1500}30USERREQ1T \n{1510}1000\n{1520}20240102BANKA001000001\n{2000}000000150000\n{3100}021000021ALPHA BANK        *\n{3400}121042882BETA BANK         *\n{3600}BTR   \n",
         b"{1500}30INVOICE1P \r\n{1510}1000\r\n{1520}20240102BANKA001000002\r\n{2000}000000025000\r\n{3100}021000021ALPHA BANK*\r\n{3400}121042882BETA BANK*\r\n{3600}CTR\r\n{4200}D123456789*JOHN DOE*1 MAIN ST*ANYTOWN*\r\n{4320}REF 2024-1*\r\n{5000}D987654321*ACME CORP*\r\n{6000}INVOICE 1*INVOICE 2*INVOICE 3*THANK YOU*",
         b"{1500}30USERREQ1T {1510}1000{1520}20240102BANKA001000001{2000}000000150000{3100}021000021ABCDEFGHIJKLMNOPQR{3400}121042882BETA BANK*{3600}BTR",
@@ -75,12 +75,12 @@ fn other_bytes_are_refused_at_their_first_wrong_byte(rt: HostRuntime) {
 fn the_least_mandatory_tag_is_missed(rt: HostRuntime) -> Result<(), Fail> {
     let missed = TagNo::new(3600).ok_or("3600 is a tag")?;
     assert_eq!(rt;
-        read_again(rt.alloc(), &PLAIN[..125], Form::Input),
+        read_again(rt.alloc(), &TRANSFER[..125], Form::Input),
         Err(Refused::Missing(missed))
     );
     let missed = TagNo::new(1510).ok_or("1510 is a tag")?;
     assert_eq!(rt;
-        read_again(rt.alloc(), &PLAIN[..18], Form::Draft),
+        read_again(rt.alloc(), &TRANSFER[..18], Form::Draft),
         Err(Refused::Missing(missed))
     );
     Ok(())
@@ -88,7 +88,7 @@ fn the_least_mandatory_tag_is_missed(rt: HostRuntime) -> Result<(), Fail> {
 
 #[test]
 fn a_message_tells_its_parts(rt: HostRuntime) -> Result<(), Fail> {
-    let message = decode(rt.alloc(), PLAIN, Form::Input)
+    let message = decode(rt.alloc(), TRANSFER, Form::Input)
         .ok()
         .ok_or("a submission")?;
     let code = TagNo::new(3600).ok_or("3600 is a tag")?;
@@ -99,7 +99,7 @@ fn a_message_tells_its_parts(rt: HostRuntime) -> Result<(), Fail> {
     assert!(rt; message.get(code).is_some());
     assert!(rt; message.get(note).is_none());
     let text = body(rt.alloc(), &message).ok().ok_or("memory")?;
-    assert!(rt; text.as_slice() == PLAIN);
+    assert!(rt; text.as_slice() == TRANSFER);
     Ok(())
 }
 
@@ -108,7 +108,7 @@ fn a_new_mark_changes_its_byte_alone(rt: HostRuntime) -> Result<(), Fail> {
     let cases: [(Form, &[u8], &[u8]); 2] = [
         (
             Form::Input,
-            PLAIN,
+            TRANSFER,
             b"{1500}30USERREQ1TP{1510}1000{1520}20240102BANKA001000001{2000}000000150000{3100}021000021ALPHA BANK*{3400}121042882BETA BANK*{3600}BTR",
         ),
         (
@@ -141,7 +141,7 @@ fn a_submission_gives_its_head(rt: HostRuntime) -> Result<(), Fail> {
     };
     let undated =
         b"{1500}30USERREQ1T {1510}1000{1520}20240230BANKA001000001{2000}000000150000{3100}021000021ALPHA BANK*{3400}121042882BETA BANK*{3600}BTR";
-    assert_eq!(rt; head_in(rt.alloc(), PLAIN), Some(Ok(head)));
+    assert_eq!(rt; head_in(rt.alloc(), TRANSFER), Some(Ok(head)));
     assert_eq!(rt; head_in(rt.alloc(), undated), Some(Err(IdFault::BadDate)));
     Ok(())
 }
@@ -151,7 +151,7 @@ fn a_draft_gets_its_identifier_after_its_type(rt: HostRuntime) -> Result<(), Fai
     let cases: [(&[u8], &[u8]); 2] = [
         (
             b"{1500}30USERREQ1T {1510}1000{2000}000000150000{3100}021000021ALPHA BANK*{3400}121042882BETA BANK*{3600}BTR",
-            PLAIN,
+            TRANSFER,
         ),
         (
             b"{1500}30USERREQ1T {2000}000000150000{3100}021000021ALPHA BANK*{3400}121042882BETA BANK*{3600}BTR{1510}1000",

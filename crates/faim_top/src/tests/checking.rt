@@ -1,6 +1,7 @@
 use super::{Ran, Streams, bytes, owned, run_over};
 use crate::{Reason, Status, run};
 use faim_base::{Bytes, NoMemory, Places, Refused, TagNo};
+use faim_edits::EditNo;
 use site_core::{MemSink, MemSource, Source};
 use std::alloc::Global;
 use std::test::Fail;
@@ -21,6 +22,10 @@ const FULL_NAME: &[u8] =
 
 const NAME_TOO_LONG: &[u8] =
     b"{1500}30USERREQ1T {1510}1000{1520}20240102BANKA001000001{2000}000000150000{3100}021000021ABCDEFGHIJKLMNOPQRS{3400}121042882BETA BANK*{3600}BTR";
+
+// The check digit of this receiver holds, though no account has the number.
+const TO_NOBODY: &[u8] =
+    b"{1500}30USERREQ1T {1510}1000{1520}20240102BANKA001000001{2000}000000150000{3100}021000021ALPHA BANK*{3400}231380104BETA BANK*{3600}BTR";
 
 // An input is checked, with reads that end at these places.
 fn checked(alloc: Global, input: &[u8], cuts: &[usize]) -> Result<Ran, NoMemory> {
@@ -49,7 +54,7 @@ fn each_byte(alloc: Global, input: &[u8]) -> Result<Places, NoMemory> {
 
 #[test]
 fn a_message_is_accepted_and_written_again(rt: HostRuntime) -> Result<(), Fail> {
-    for message in [JOINED, IN_LINES, OF_CUSTOMER, FULL_NAME] {
+    for message in [JOINED, IN_LINES, OF_CUSTOMER, FULL_NAME, TO_NOBODY] {
         let wanted = joined(rt.alloc(), b"accepted\n", message)?;
         let cuts = each_byte(rt.alloc(), message)?;
         for cuts in [&[], cuts.as_slice()] {
@@ -98,6 +103,35 @@ fn an_input_that_ends_too_early_is_refused(rt: HostRuntime) -> Result<(), Fail> 
     for (input, line, why) in cases {
         let ran = checked(alloc, input, &[])?;
         assert_eq!(rt; ran.status, Status::Refused(Reason::Text(why)));
+        assert_eq!(rt; ran.written.as_slice(), line);
+        assert_eq!(rt; ran.status.code(), 3);
+    }
+    Ok(())
+}
+
+#[test]
+fn the_first_edit_that_fails_is_told(rt: HostRuntime) -> Result<(), Fail> {
+    let cases: [(&[u8], &[u8], u16); 3] = [
+        (
+            b"{1500}30USERREQ1T {1510}1000{1520}20240102BANKA001000001{2000}000000150000{3100}021000021ALPHA BANK*{3400}021000022BETA BANK*{3600}BTR",
+            b"edit E107 RECEIVER CHECK DIGIT IS WRONG\n",
+            107,
+        ),
+        (
+            b"{1500}30USERREQ1X {1510}1000{1520}20240102BANKA001000001{2000}000000150000{3100}021000021ALPHA BANK*{3400}021000022BETA BANK*{3600}BTR",
+            b"edit E102 TEST OR PRODUCTION CODE IS WRONG\n",
+            102,
+        ),
+        (
+            b"{1500}30USERREQ1PR{1510}1000{1520}20240102BANKA001000001{2000}000000000000{3100}021000021ALPHA BANK*{3400}121042882BETA BANK*{3600}BTR",
+            b"edit E103 DUPLICATION CODE IS WRONG\n",
+            103,
+        ),
+    ];
+    for (input, line, number) in cases {
+        let ran = checked(rt.alloc(), input, &[])?;
+        let number = EditNo::new(number).ok_or("an edit")?;
+        assert_eq!(rt; ran.status, Status::Refused(Reason::Edit(number)));
         assert_eq!(rt; ran.written.as_slice(), line);
         assert_eq!(rt; ran.status.code(), 3);
     }

@@ -16,12 +16,17 @@ fn other_words_are_no_command(rt: HostRuntime) -> Result<(), Fail> {
         read_fails: &[1],
         write_fails: &[1],
     };
-    let cases: [&[&str]; 7] = [
+    let cases: [&[&str]; 12] = [
         &[],
         &[""],
         &["replay", "x"],
         &["check", "now"],
         &["host"],
+        &["table"],
+        &["table", "2"],
+        &["table", "9"],
+        &["table", "01"],
+        &["table", "1", "1"],
         &["Replay"],
         &["replay "],
     ];
@@ -29,6 +34,24 @@ fn other_words_are_no_command(rt: HostRuntime) -> Result<(), Fail> {
         let ran = run_over(rt.alloc(), words, b"", &streams)?;
         assert_eq!(rt; ran.status, Status::Usage);
         assert!(rt; ran.written.as_slice().is_empty());
+    }
+    Ok(())
+}
+
+#[test]
+fn a_table_needs_no_input(rt: HostRuntime) -> Result<(), Fail> {
+    let table =
+        b"BTR 1000 1002 1008 1500 1502 1508 1600 1602 1608\nCKS 1600 1602 1608\nCTR 1000 1002 1008 1500 1502 1508 1600 1602 1608\nDEP 1600 1602 1608\nDRB 1031 1631\nDRC 1031 1631\nDRW 1032 1632\nFFR 1600 1602 1608\nFFS 1600 1602 1608\nSVC 1001 1007 1033 1090 1501 1507 1590 1601 1607 1633 1690\nE101 FORMAT VERSION IS NOT 30\nE102 TEST OR PRODUCTION CODE IS WRONG\nE103 DUPLICATION CODE IS WRONG\nE104 BUSINESS FUNCTION CODE UNKNOWN\nE105 TYPE AND SUBTYPE NOT FOR CODE\nE106 SENDER CHECK DIGIT IS WRONG\nE107 RECEIVER CHECK DIGIT IS WRONG\nE108 AMOUNT IS ZERO\nE109 TAG 4200 IS MISSING\nE110 TAG 5000 IS MISSING\nE111 TAG 4400 IS MISSING\nE112 TAG 3500 IS MISSING\nE113 TAG 9000 NOT FOR CODE\nE114 TAG 4400 NOT FOR CODE\nE115 TAG 5400 NOT FOR CODE\nE116 TAG 6110 NOT FOR CODE\nE117 ID CODE IS NOT LISTED\nE161 SENDER NOT SERVED ON THIS LINE\nE162 RECEIVER IS NOT SERVED\n";
+    for (write_fails, want) in [(&[9], Status::Done), (&[1], Status::WriteFault)] {
+        let streams = Streams {
+            cuts: &[],
+            read_fails: &[1],
+            write_fails,
+        };
+        let ran = run_over(rt.alloc(), &["table", "1"], b"HELLO", &streams)?;
+        assert_eq!(rt; ran.status, want);
+        let is_done = want == Status::Done;
+        assert_eq!(rt; ran.written.as_slice() == table.as_slice(), is_done);
     }
     Ok(())
 }

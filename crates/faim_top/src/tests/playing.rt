@@ -1,4 +1,4 @@
-use super::{ALPHA, BETA, FIRST, HOST, SECOND, THIRD, add_lines, replayed};
+use super::{ALPHA, BETA, FIRST, Ran, SECOND, THIRD, add_lines, replayed};
 use crate::Status;
 use faim_base::{Bytes, NoMemory};
 use std::alloc::Global;
@@ -7,7 +7,7 @@ use std::test::Fail;
 #[test]
 fn a_message_is_posted(rt: HostRuntime) -> Result<(), Fail> {
     let script =
-        b"host T 20240102 2400 2400\naccount 021000021 BANKA001 1000000 0\naccount 121042882 BANKB001 0 0\nbegin\nsubmit BANKA001 {1500}30USERREQ1T {1510}1000{1520}20240102BANKA001000001{2000}000000150000{3100}021000021ALPHA BANK*{3400}121042882BETA BANK*{3600}BTR\n";
+        b"host T 20240102 1800 1830\naccount 021000021 BANKA001 1000000 0\naccount 121042882 BANKB001 0 0\nbegin\nclock 20240102 0930\nsubmit BANKA001 {1500}30USERREQ1T {1510}1000{1520}20240102BANKA001000001{2000}000000150000{3100}021000021ALPHA BANK*{3400}121042882BETA BANK*{3600}BTR\n";
     let report =
         b"1 taken 20240102BANKB001000001\ncycle 20240102\nbalance 021000021 850000\nbalance 121042882 150000\noutputs BANKA001 0\noutputs BANKB001 1\nend\n";
     let ran = replayed(rt.alloc(), script)?;
@@ -16,8 +16,8 @@ fn a_message_is_posted(rt: HostRuntime) -> Result<(), Fail> {
     Ok(())
 }
 
-// Two accounts, what comes from their endpoints, and what is reported of it: a line for each event, the two balances in
-// cents, and how many outputs the two endpoints have.
+// A day with cutoffs, on which the clock reads half past nine at first. Two accounts, what comes from their endpoints, and
+// what is reported of it: a line for each event, the two balances in cents, and how many outputs the two endpoints have.
 #[derive(Clone, Copy)]
 struct Case {
     what: &'static str,
@@ -28,7 +28,7 @@ struct Case {
     outputs: [u64; 2],
 }
 
-const CASES: [Case; 17] = [
+const CASES: [Case; 23] = [
     Case {
         what: "repeats with the mark and without it",
         accounts: [ALPHA, BETA],
@@ -218,6 +218,86 @@ const CASES: [Case; 17] = [
         outputs: [0, 1],
     },
     Case {
+        what: "a check digit that doesn't hold",
+        accounts: [ALPHA, BETA],
+        events: &[
+            "submit BANKA001 {1500}30USERREQ1T {1510}1000{1520}20240102BANKA001000001{2000}000000150000{3100}021000021ALPHA BANK*{3400}021000022BETA BANK*{3600}BTR",
+        ],
+        outcomes: &["1 refused E107"],
+        balances: [1_000_000, 0],
+        outputs: [0, 0],
+    },
+    Case {
+        what: "a type that the code doesn't permit, and again with its mark",
+        accounts: [ALPHA, BETA],
+        events: &[
+            "submit BANKA001 {1500}30USERREQ1T {1510}1031{1520}20240102BANKA001000001{2000}000000150000{3100}021000021ALPHA BANK*{3400}121042882BETA BANK*{3600}BTR",
+            "submit BANKA001 {1500}30USERREQ1TP{1510}1031{1520}20240102BANKA001000001{2000}000000150000{3100}021000021ALPHA BANK*{3400}121042882BETA BANK*{3600}BTR",
+        ],
+        outcomes: &["1 refused E105", "2 again refused E105"],
+        balances: [1_000_000, 0],
+        outputs: [0, 0],
+    },
+    Case {
+        what: "a service message, which moves nothing",
+        accounts: [ALPHA, BETA],
+        events: &[
+            "submit BANKA001 {1500}30USERREQ1T {1510}1090{1520}20240102BANKA001000001{2000}000000000000{3100}021000021*{3400}121042882*{3600}SVC{9000}PLEASE CALL*",
+        ],
+        outcomes: &["1 taken 20240102BANKB001000001"],
+        balances: [1_000_000, 0],
+        outputs: [0, 1],
+    },
+    Case {
+        what: "customers' cutoff, and a bank's transfer after it",
+        accounts: [ALPHA, BETA],
+        events: &[
+            "clock 20240102 1759",
+            "submit BANKA001 {1500}30USERREQ1T {1510}1000{1520}20240102BANKA001000001{2000}000000000100{3100}021000021*{3400}121042882*{3600}CTR{4200}D1*{5000}D2*",
+            "clock 20240102 1800",
+            "submit BANKA001 {1500}30USERREQ1T {1510}1000{1520}20240102BANKA001000002{2000}000000000100{3100}021000021*{3400}121042882*{3600}CTR{4200}D1*{5000}D2*",
+            THIRD,
+        ],
+        outcomes: &[
+            "1 taken 20240102BANKB001000001",
+            "2 refused W301",
+            "3 taken 20240102BANKB001000002",
+        ],
+        balances: [849_900, 150_100],
+        outputs: [0, 2],
+    },
+    Case {
+        what: "banks' cutoff, and a clock that goes back",
+        accounts: [ALPHA, BETA],
+        events: &[
+            "clock 20240102 1829",
+            FIRST,
+            "clock 20240102 1830",
+            SECOND,
+            "clock 20240102 0000",
+            THIRD,
+            "retrieve BANKB001 20240102 000001",
+        ],
+        outcomes: &[
+            "1 taken 20240102BANKB001000001",
+            "2 refused W302",
+            "3 refused W302",
+            "4 retrieved 1",
+        ],
+        balances: [850_000, 150_000],
+        outputs: [0, 1],
+    },
+    Case {
+        what: "a message of another line than test",
+        accounts: [ALPHA, BETA],
+        events: &[
+            "submit BANKA001 {1500}30USERREQ1P {1510}1000{1520}20240102BANKA001000001{2000}000000150000{3100}021000021ALPHA BANK*{3400}121042882BETA BANK*{3600}BTR",
+        ],
+        outcomes: &["1 refused E102"],
+        balances: [1_000_000, 0],
+        outputs: [0, 0],
+    },
+    Case {
         what: "no events",
         accounts: [ALPHA, BETA],
         events: &[],
@@ -230,9 +310,9 @@ const CASES: [Case; 17] = [
 // The script of a case.
 fn script_of(alloc: Global, case: &Case) -> Result<Bytes, NoMemory> {
     let mut text = Bytes::new(alloc);
-    add_lines(&mut text, &[HOST])?;
+    add_lines(&mut text, &["host T 20240102 1800 1830"])?;
     add_lines(&mut text, &case.accounts)?;
-    add_lines(&mut text, &["begin"])?;
+    add_lines(&mut text, &["begin", "clock 20240102 0930"])?;
     add_lines(&mut text, case.events)?;
     Ok(text)
 }
@@ -260,4 +340,38 @@ fn scripts_have_their_reports(rt: HostRuntime) -> Result<(), Fail> {
         assert_eq!(rt; ran.status, Status::Done, "{}", case.what);
     }
     Ok(())
+}
+
+// Cutoffs of customers and of banks, what the clock reads, and what becomes of a bank's transfer.
+#[test]
+fn each_time_may_be_a_cutoff(rt: HostRuntime) -> Result<(), Fail> {
+    let taken = "1 taken 20240102BANKB001000001";
+    let cases = [
+        ("0000 2400", "clock 20240102 0000", taken),
+        ("0000 2400", "clock 20240102 2359", taken),
+        ("0000 2400", "clock 20240103 0000", "1 refused W302"),
+        ("2400 0000", "clock 20240101 2359", taken),
+        ("2400 0000", "clock 20240102 0000", "1 refused W302"),
+        ("2400 2359", "clock 20240102 2358", taken),
+        ("2400 2359", "clock 20240102 2359", "1 refused W302"),
+        ("0000 0001", FIRST, taken),
+    ];
+    for (cutoffs, clock, outcome) in cases {
+        let ran = replayed_at(rt.alloc(), cutoffs, clock)?;
+        let want = format!(in rt.alloc(); "{outcome}\n")?;
+        assert!(rt;
+            ran.written.as_slice().starts_with(want.as_bytes()),
+            "{cutoffs} {clock}"
+        );
+    }
+    Ok(())
+}
+
+// A bank's transfer under these cutoffs, after a line that sets the clock.
+fn replayed_at(alloc: Global, cutoffs: &str, clock: &str) -> Result<Ran, NoMemory> {
+    let host = format!(in alloc; "host T 20240102 {cutoffs}\n")?;
+    let mut text = Bytes::new(alloc);
+    text.extend(host.as_bytes())?;
+    add_lines(&mut text, &[ALPHA, BETA, "begin", clock, FIRST])?;
+    replayed(alloc, text.as_slice())
 }

@@ -13,7 +13,7 @@ fn replayed_lines(alloc: Global, before: &[&str], line: &str) -> Result<Ran, NoM
 }
 
 // Lines at the head of a script, and why they may not stand there.
-const FIRST_LINES: [(&str, &str); 15] = [
+const FIRST_LINES: [(&str, &str); 19] = [
     ("", "shape"),
     (" host T 20240102 2400 2400", "shape"),
     ("hosts X 20240230 1800 1800", "shape"),
@@ -26,19 +26,24 @@ const FIRST_LINES: [(&str, &str); 15] = [
     ("host t 20240102 2400 2400", "value"),
     ("host T 20240230 2400 2400", "value"),
     ("host T 2024010 2400 2400", "value"),
-    ("host T 20240102 1800 2400", "value"),
-    ("host T 20240102 2400 1800", "value"),
+    ("host T 20240102 2401 2400", "value"),
+    ("host T 20240102 2400 2360", "value"),
+    ("host T 20240102 1860 2400", "value"),
+    ("host T 20240102 2400 930", "value"),
+    ("host T 20240102 24000 2400", "value"),
+    ("host T 20240102 2400 +930", "value"),
     ("host T 20240102 2400 2400\r", "value"),
 ];
 
 // Lines after an account.
-const ACCOUNT_LINES: [(&str, &str); 32] = [
+const ACCOUNT_LINES: [(&str, &str); 33] = [
     ("", "shape"),
     ("begin ", "shape"),
     ("begin\r", "shape"),
     ("host T 20240102 2400 2400", "shape"),
     ("submit BANKA001 HELLO", "shape"),
     ("bank BANKA001", "shape"),
+    ("clock 20240102 0930", "shape"),
     ("accounts 021000021 BANKA001 -0 +1", "shape"),
     ("account 231380104 BANKC001 1", "shape"),
     ("account 231380104 BANKC001 1 0 ", "shape"),
@@ -68,12 +73,20 @@ const ACCOUNT_LINES: [(&str, &str); 32] = [
 ];
 
 // Lines after an event.
-const EVENT_LINES: [(&str, &str); 20] = [
+const EVENT_LINES: [(&str, &str); 28] = [
     ("", "shape"),
     ("begin", "shape"),
     ("host T 20240102 2400 2400", "shape"),
     ("account 231380104 BANKC001 1 0", "shape"),
-    ("clock 20240102 0930", "shape"),
+    ("clock", "shape"),
+    ("clock 20240102", "shape"),
+    ("clock 20240230 2400 ", "shape"),
+    ("clocks 20240102 0930", "shape"),
+    ("clock 20240230 0930", "value"),
+    ("clock 20240102 2400", "value"),
+    ("clock 20240102 0960", "value"),
+    ("clock 20240102 930", "value"),
+    ("clock 20240102 0930\r", "value"),
     ("submit", "shape"),
     ("submit BANKA001", "shape"),
     ("submit BANKA01", "shape"),

@@ -1,7 +1,7 @@
-use Rattle.std.proofs.Common.{◌≡◌, ◌+◌, IfSome, Option, List, ℕ, sym, subst}
+use Rattle.std.proofs.Common.{◌≡◌, IfSome, Option, List, ℕ, sym, subst}
 use Rattle.faim_top.specs.Words.{command_of, texts}
 use Rattle.faim_top.specs.Seen.{LosesAtMost, Seen, seen}
-use Rattle.faim_top.specs.Ends.{Ended, limit_of}
+use Rattle.faim_top.specs.Ends.{Ended, most_read}
 use Rattle.faim_cli.proofs.between.run_between.Goals as goal
 
 -- what an adapter tells at its ends is what its object tells
@@ -22,6 +22,6 @@ returns-clause-ended g c =
 
 pub returns-clause-few : goal.returns-clause-few
 returns-clause-few g c =
-    same_seen g.R.Read.remaining (λ reads. IfSome (command_of (texts c.args.words.now)) (λ k. LosesAtMost (limit_of k + 1) reads))
+    same_seen g.R.Read.remaining (λ reads. IfSome (command_of (texts c.args.words.now)) (λ k. LosesAtMost (most_read k) reads))
     c.args.reader c.new-input.result.reader c.into_reader.result c.run-status.new.input.reader c.new-input.ensures.reader c.into_reader.ensures
     c.run-status.ensures.few

@@ -1,5 +1,4 @@
-use Rattle.std.proofs.Common.{inl, inr, List, ℕ, Option, Some, None, subst}
-use Rattle.std.specs.Prelude.{IfSome}
+use Rattle.std.proofs.Common.{inl, inr, List, ℕ, subst}
 use Rattle.std.specs.Io.KnownBytes.{Appends}
 use Rattle.faim_top.specs.Seen.{seen}
 use Rattle.faim_top.specs.Ends.{Answers, AppendsPart, Streams}

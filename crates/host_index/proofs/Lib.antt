@@ -1,0 +1,9 @@
+pub mod Found
+pub mod InOrder
+pub mod Counted
+pub mod Retrieving
+pub mod TakenBack
+pub mod Answering
+pub mod Rising
+pub mod Apart
+pub mod Asked
