@@ -6,14 +6,13 @@ use Rattle.std.proofs.lemmas.Bool.Decides.{nat_tests}
 use Rattle.std.proofs.lemmas.List.{length-take}
 use Rattle.faim_base.specs.declared.ids.OutPos.{OutPos}
 use Rattle.faim_base.specs.declared.judgement.Head.{Head}
-use Rattle.faim_base.specs.declared.judgement.Verdict.{Verdict}
 use Rattle.faim_base.specs.declared.judgement.Verdict.TheVariants.{Taken}
 use Rattle.host_ledger.specs.declared.config.Config.{Config}
 use Rattle.host_ledger.specs.declared.entries.Entry.{Entry}
 use Rattle.host_ledger.specs.declared.entries.Entry.TheVariants.{Posted, Roll}
 use Rattle.host_ledger.specs.Accounts.{account_of, endpoint_of}
-use Rattle.faim_model.specs.Lists.{counted}
-use Rattle.faim_model.specs.Sums.{cycle}
+use Rattle.host_ledger.specs.Lists.{counted}
+use Rattle.host_ledger.specs.Sums.{cycle}
 use Rattle.faim_model.specs.Outputs.{Item, is_from, outputs, retrieved, sent_in_cycle}
 use Rattle.faim_model.specs.Verdicts.{is_customer, is_past}
 use Rattle.faim_model.specs.Lawful.{IsAccepted, Lawful, last_moment, moment_of}

@@ -13,7 +13,7 @@ use Rattle.host_ledger.specs.declared.entries.Entry.TheVariants.{Posted}
 use Rattle.faim_model.specs.declared.decisions.Decision.{Decision}
 use Rattle.faim_model.specs.declared.decisions.Decision.TheVariants.{Known as KnownAt, Differs, WrongSource}
 use Rattle.faim_model.specs.declared.decisions.HostOutcome.TheVariants.{Known, TurnedAway}
-use Rattle.faim_model.specs.Submissions.{Submission, Numbered, submission}
+use Rattle.faim_model.specs.Submissions.{Numbered, submission}
 use Rattle.faim_model.specs.Verdicts.{answer_of, has_body, has_imad, judged, judged_new, place_of}
 use Rattle.faim_model.specs.Lawful.{Lawful}
 use Rattle.faim_model.specs.Turns.{answered, effective, stays, submitted, told_again, turn_at}

@@ -15,9 +15,9 @@ use Rattle.host_ledger.specs.declared.entries.Entry.{Entry}
 use Rattle.host_ledger.specs.Accounts.{account_of, endpoint_of, floor_of, is_served_at}
 use Rattle.faim_model.specs.declared.decisions.Decision.{Decision}
 use Rattle.faim_model.specs.declared.decisions.Decision.TheVariants.{New, Known, Differs, WrongSource}
-use Rattle.faim_model.specs.Sums.{balance, cycle, moves_money}
+use Rattle.host_ledger.specs.Sums.{balance, cycle, is_below_floor, moves_money}
 use Rattle.faim_model.specs.Outputs.{sent_in_cycle}
-use Rattle.faim_model.specs.Verdicts.{has_body, has_imad, is_below_floor, is_customer, is_past, judged, judged_new, place_of, refused}
+use Rattle.faim_model.specs.Verdicts.{has_body, has_imad, is_customer, is_past, judged, judged_new, place_of, refused}
 use Rattle.faim_model.specs.Lawful.{IsAccepted, times_posted}
 use Rattle.faim_model.proofs.Imads.{bytes_equal, bytes_pass}
 use Rattle.faim_model.proofs.Places.{none_with_body}

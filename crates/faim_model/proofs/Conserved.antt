@@ -11,10 +11,10 @@ use Rattle.host_ledger.specs.declared.entries.Entry.{Entry}
 use Rattle.host_ledger.specs.declared.entries.Entry.TheVariants.{Posted, Roll}
 use Rattle.host_ledger.specs.Soundness.{IsConfig}
 use Rattle.host_ledger.specs.Accounts.{account_in, account_of, opening_of}
-use Rattle.faim_model.specs.Lists.{summed, total}
-use Rattle.faim_model.specs.Sums.{balance, gives, moves_money, takes}
+use Rattle.host_ledger.specs.Lists.{summed, total}
+use Rattle.host_ledger.specs.Sums.{balance, gives, moves_money, takes}
 use Rattle.faim_model.specs.Lawful.{Follows, Lawful}
-use Rattle.faim_model.proofs.Balances.{moves_by_entry}
+use Rattle.host_ledger.proofs.Balances.{moves_by_entry}
 use Rattle.faim_model.proofs.Judgements.{posted_taken}
 use Rattle.faim_model.proofs.Members.{first_in, later_in}
 use Rattle.faim_model.proofs.OwnAccounts.{Apart, found_by_number, sound_apart, sum_at_number}

@@ -15,8 +15,8 @@ use Rattle.host_ledger.specs.declared.entries.Entry.{Entry}
 use Rattle.host_ledger.specs.declared.entries.Entry.TheVariants.{Posted, Roll}
 use Rattle.faim_model.specs.declared.decisions.Decision.TheVariants.{New}
 use Rattle.faim_model.specs.declared.decisions.HostOutcome.TheVariants.{Recorded}
-use Rattle.faim_model.specs.Lists.{total}
-use Rattle.faim_model.specs.Sums.{balance, cycle, moves_money}
+use Rattle.host_ledger.specs.Lists.{total}
+use Rattle.host_ledger.specs.Sums.{balance, cycle, moves_money}
 use Rattle.faim_model.specs.Outputs.{outputs, retrieved, sent_in_cycle}
 use Rattle.faim_model.specs.Lawful.{Follows, IsMark, RollFollows, one_to}
 use Rattle.faim_model.specs.Submissions.{Submission, Strange, Unnumbered, Numbered, submission}

@@ -13,9 +13,10 @@ use Rattle.host_ledger.specs.declared.entries.Entry.{Entry}
 use Rattle.host_ledger.specs.declared.entries.Entry.TheVariants.{Posted, Roll}
 use Rattle.host_ledger.specs.Soundness.{IsConfig}
 use Rattle.host_ledger.specs.Accounts.{floor_of, opening_of}
-use Rattle.faim_model.specs.Sums.{balance, gives, moves_money, takes}
+use Rattle.host_ledger.specs.Sums.{balance, gives, moves_money, takes}
 use Rattle.faim_model.specs.Lawful.{Lawful}
-use Rattle.faim_model.proofs.Balances.{leaves_floor, moves_by_entry}
+use Rattle.host_ledger.proofs.Balances.{moves_by_entry}
+use Rattle.faim_model.proofs.Balances.{leaves_floor}
 use Rattle.faim_model.proofs.Imads.{bytes_equal}
 use Rattle.faim_model.proofs.OwnAccounts.{found_by_number, sound_apart}
 

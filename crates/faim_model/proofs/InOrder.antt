@@ -9,7 +9,7 @@ use Rattle.host_ledger.specs.declared.config.Config.{Config}
 use Rattle.host_ledger.specs.declared.entries.Entry.{Entry}
 use Rattle.host_ledger.specs.declared.entries.Entry.TheVariants.{Posted, Roll}
 use Rattle.host_ledger.specs.Accounts.{has_endpoint}
-use Rattle.faim_model.specs.Sums.{cycle}
+use Rattle.host_ledger.specs.Sums.{cycle}
 use Rattle.faim_model.specs.Outputs.{Item, count_under, one_if, outputs}
 use Rattle.faim_model.specs.Lawful.{Lawful, numbers_under, one_to}
 use Rattle.faim_model.proofs.Imads.{bytes_equal}

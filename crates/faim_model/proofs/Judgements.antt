@@ -11,9 +11,9 @@ use Rattle.host_ledger.specs.declared.entries.Entry.{Entry}
 use Rattle.faim_model.specs.declared.decisions.Decision.{Decision}
 use Rattle.faim_model.specs.declared.decisions.Decision.TheVariants.{New}
 use Rattle.host_ledger.specs.Accounts.{account_of, endpoint_of, is_served_at}
-use Rattle.faim_model.specs.Sums.{cycle}
+use Rattle.host_ledger.specs.Sums.{cycle, is_below_floor}
 use Rattle.faim_model.specs.Outputs.{sent_in_cycle}
-use Rattle.faim_model.specs.Verdicts.{Now, answer_of, has_body, has_imad, is_below_floor, is_customer, is_past, judged, judged_new, place_of, verdict_on}
+use Rattle.faim_model.specs.Verdicts.{Now, answer_of, has_body, has_imad, is_customer, is_past, judged, judged_new, place_of, verdict_on}
 use Rattle.faim_model.specs.Lawful.{IsMark, PostFollows}
 use Rattle.faim_model.proofs.Submitted.{marked_again}
 use Rattle.faim_model.proofs.Cases.{IsNew, IsTaken, new_case, taken_case}

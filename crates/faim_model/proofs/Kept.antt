@@ -1,5 +1,5 @@
 -- The entry that is found by its identifier and its body.
-use Rattle.std.proofs.Common.{◌≡◌, refl, sym, ◌∙◌, ap, subst, ℕ, ◌==◌, Bool, true, false, List, [], ◌∷◌, length, Option, Some, None, if◌then◌else◌}
+use Rattle.std.proofs.Common.{◌≡◌, refl, sym, ◌∙◌, ap, subst, ℕ, ◌==◌, Bool, true, false, List, [], ◌∷◌, length, Some, if◌then◌else◌}
 use Rattle.std.specs.List.{Contains}
 use Rattle.std.specs.Str.{bytes_eq}
 use Rattle.std.proofs.lemmas.Bool.{and_parts}
@@ -8,7 +8,7 @@ use Rattle.faim_base.specs.declared.judgement.Head.{Head}
 use Rattle.faim_base.specs.declared.judgement.Verdict.{Verdict}
 use Rattle.host_ledger.specs.declared.entries.Entry.{Entry}
 use Rattle.host_ledger.specs.declared.entries.Entry.TheVariants.{Posted, Roll}
-use Rattle.faim_model.specs.Verdicts.{has_body, has_imad, place_of, same_imad}
+use Rattle.faim_model.specs.Verdicts.{has_body, place_of, same_imad}
 use Rattle.faim_model.specs.Turns.{entry_at}
 use Rattle.faim_model.proofs.Imads.{bytes_equal, imads_equal}
 use Rattle.faim_model.proofs.Members.{first_in, later_in}

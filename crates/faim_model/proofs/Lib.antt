@@ -24,4 +24,17 @@ pub mod Refusing
 pub mod Recorded
 pub mod Sound
 pub mod Spelled
+pub mod Fills
+pub mod Ranged
+pub mod Written
+pub mod Stamps
+pub mod Codes
+pub mod Covering
+pub mod Telling
+pub mod Outside
+pub mod Positions
+pub mod SamePlace
+pub mod HandedOn
+pub mod SameOutput
 mod Examples
+mod FrameExamples

@@ -1,5 +1,5 @@
 -- A message with another mark: its head is the same, and it fails the same edits where the table allows both marks or neither.
-use Rattle.std.proofs.Common.{◌≡◌, refl, sym, ◌∙◌, ap, subst, ℕ, zero, suc, ◌<◌, ◌≤◌, ◌==◌, Bool, true, false, not, cond, set, get_or, List, [], ◌∷◌, take, drop, length, Option, Some, None, option_map, arith}
+use Rattle.std.proofs.Common.{◌≡◌, refl, sym, ◌∙◌, ap, subst, ℕ, zero, suc, ◌<◌, ◌≤◌, ◌==◌, Bool, true, false, not, cond, set, get_or, List, [], ◌∷◌, take, drop, length, Some, option_map, arith}
 use Rattle.std.specs.Prelude.{codes, bytes_eq, Result, Ok}
 use Rattle.std.specs.List.{find, AllByRecursion}
 use Rattle.std.proofs.lemmas.Bool.{eqb-true}

@@ -8,7 +8,7 @@ use Rattle.host_ledger.specs.declared.config.Account.{Account}
 use Rattle.host_ledger.specs.declared.config.Config.{Config}
 use Rattle.host_ledger.specs.Accounts.{account_in}
 use Rattle.host_ledger.specs.Soundness.{IsConfig, numbers_of}
-use Rattle.faim_model.specs.Lists.{summed}
+use Rattle.host_ledger.specs.Lists.{summed}
 use Rattle.faim_model.proofs.Imads.{bytes_equal, bytes_pass}
 use Rattle.faim_model.proofs.Members.{first_or_later, none_in}
 

@@ -1,12 +1,11 @@
 -- A refusal that is kept is one that may be recorded, and one that turns away isn't.
-use Rattle.std.proofs.Common.{◌≡◌, refl, sym, ◌∙◌, ap, subst, ℕ, ◌+◌, ◌==◌, ◌&&◌, nat_le, Bool, true, false, not, List, [], ◌∷◌, Option, Some, None, is_none, option_map, if◌then◌else◌}
+use Rattle.std.proofs.Common.{◌≡◌, refl, sym, ◌∙◌, ap, ℕ, ◌+◌, ◌==◌, ◌&&◌, nat_le, Bool, true, false, not, List, [], ◌∷◌, Option, Some, None, is_none, option_map, if◌then◌else◌}
 use Rattle.std.specs.List.{find, list_all}
 use Rattle.std.specs.Option.{option_map_or}
 use Rattle.std.specs.Str.{bytes_eq}
 use Rattle.std.proofs.lemmas.Bool.{and_parts}
 use Rattle.faim_base.specs.declared.judgement.Head.{Head}
 use Rattle.faim_base.specs.declared.judgement.Reject.{Reject}
-use Rattle.faim_base.specs.declared.judgement.Verdict.{Verdict}
 use Rattle.faim_base.specs.declared.judgement.Verdict.TheVariants.{Taken, Refused}
 use Rattle.faim_base.specs.Refusals.{e161, e162, edit, f401, h101, i501, is_edit_number, is_recorded, w301, w302}
 use Rattle.faim_message.specs.Spelling.{Content}
@@ -16,10 +15,10 @@ use Rattle.host_ledger.specs.declared.entries.Entry.{Entry}
 use Rattle.host_ledger.specs.Accounts.{account_of, endpoint_of, is_served_at}
 use Rattle.faim_model.specs.declared.decisions.Decision.{Decision}
 use Rattle.faim_model.specs.declared.decisions.Decision.TheVariants.{New, Known, Differs, WrongSource}
-use Rattle.faim_model.specs.Sums.{cycle}
+use Rattle.host_ledger.specs.Sums.{cycle, is_below_floor}
 use Rattle.faim_model.specs.Outputs.{sent_in_cycle}
 use Rattle.faim_model.specs.Submissions.{Submission, Strange, Unnumbered, Numbered, failed_edit, submission}
-use Rattle.faim_model.specs.Verdicts.{Answer, Now, Before, Turned, answer_of, has_body, has_imad, is_below_floor, is_customer, is_past, judged, judged_new, place_of, refused, verdict, verdict_on}
+use Rattle.faim_model.specs.Verdicts.{Answer, Now, Before, Turned, answer_of, has_body, has_imad, is_customer, is_past, judged, judged_new, place_of, refused, verdict, verdict_on}
 use Rattle.faim_model.proofs.Submitted.{numbered_from}
 
 -- the numbers of the table are those of edits

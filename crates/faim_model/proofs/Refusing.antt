@@ -1,15 +1,12 @@
 -- Each refusal that isn't kept, exactly where it comes; and which refusals are kept.
-use Rattle.std.proofs.Common.{◌≡◌, ◌≢◌, ◌↔◌, refl, sym, ◌∙◌, ap, subst, ℕ, ◌+◌, ◌*◌, ◌<◌, ◌⊎◌, ⊎_elim, inl, inr, lit≤, Bool, true, false, not, List, [], ◌∷◌, Option, Some, None, option_map, Err, if◌then◌else◌, arith}
-use Rattle.std.specs.Prelude.{IsTrue}
-use Rattle.std.specs.List.{Contains, find, list_all}
-use Rattle.std.specs.Option.{option_map_or}
+use Rattle.std.proofs.Common.{◌≡◌, ◌≢◌, ◌↔◌, refl, sym, ◌∙◌, ap, subst, ℕ, ◌+◌, ◌*◌, ◌<◌, ◌⊎◌, ⊎_elim, inl, inr, lit≤, Bool, true, false, not, List, [], ◌∷◌, Option, None, Err, if◌then◌else◌, arith}
+use Rattle.std.specs.List.{Contains}
 use Rattle.std.specs.Str.{bytes_eq}
 use Rattle.std.proofs.lemmas.Bool.{and_from, false_from_ne_true}
 use Rattle.faim_base.specs.declared.ids.IdFault.{IdFault}
 use Rattle.faim_base.specs.declared.ids.Imad.{Imad}
 use Rattle.faim_base.specs.declared.judgement.Head.{Head}
 use Rattle.faim_base.specs.declared.judgement.Reject.{Reject}
-use Rattle.faim_base.specs.declared.judgement.Verdict.{Verdict}
 use Rattle.faim_base.specs.Refusals.{e001, e002, h102, x201}
 use Rattle.faim_message.specs.declared.form.Form.TheVariants.{Input}
 use Rattle.faim_message.specs.Spelling.{Content, Spells}
@@ -21,7 +18,7 @@ use Rattle.host_ledger.specs.declared.entries.Entry.TheVariants.{Posted, Roll}
 use Rattle.faim_model.specs.declared.decisions.Decision.{Decision}
 use Rattle.faim_model.specs.declared.decisions.Decision.TheVariants.{New, Known, Differs, WrongSource}
 use Rattle.faim_model.specs.Submissions.{Submission, Strange, Unnumbered, Numbered, submission, submitted_as}
-use Rattle.faim_model.specs.Verdicts.{Answer, Now, Before, Turned, answer_of, has_body, has_imad, judged, judged_new, place_of, same_imad, verdict, verdict_on}
+use Rattle.faim_model.specs.Verdicts.{Answer, Turned, answer_of, has_body, has_imad, judged, judged_new, place_of, verdict, verdict_on}
 use Rattle.faim_model.specs.Lawful.{HasOther, Lawful}
 use Rattle.faim_model.proofs.Again.{differs_case}
 use Rattle.faim_model.proofs.Imads.{bytes_equal, bytes_pass, imads_equal, none_there}

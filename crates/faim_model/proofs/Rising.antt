@@ -1,17 +1,16 @@
 -- Outputs rise in position, and none has a date after the present cycle.
-use Rattle.std.proofs.Common.{◌≡◌, ◌⊎◌, ⊎_elim, refl, sym, ◌∙◌, ap, subst, ℕ, ◌+◌, ◌<◌, ◌≤◌, ◌==◌, Bool, true, false, List, [], ◌∷◌, ◌++◌, append-nil, length, if◌then◌else◌, arith}
+use Rattle.std.proofs.Common.{◌≡◌, ⊎_elim, refl, sym, ◌∙◌, ap, subst, ℕ, ◌+◌, ◌<◌, ◌≤◌, ◌==◌, Bool, true, false, List, [], ◌∷◌, ◌++◌, append-nil, length, if◌then◌else◌, arith}
 use Rattle.std.proofs.lemmas.Bool.{eq-eqb, eqb-true}
 use Rattle.std.proofs.lemmas.Bool.Decides.{nat_tests}
 use Rattle.std.specs.List.{AllByRecursion, Contains}
 use Rattle.std.specs.Str.{bytes_eq}
-use Rattle.faim_base.specs.declared.ids.OutPos.{OutPos}
 use Rattle.faim_base.specs.declared.judgement.Verdict.TheVariants.{Taken, Refused}
 use Rattle.faim_base.specs.Ids.{is_up_to}
 use Rattle.host_ledger.specs.declared.config.Config.{Config}
 use Rattle.host_ledger.specs.declared.entries.Entry.{Entry}
 use Rattle.host_ledger.specs.declared.entries.Entry.TheVariants.{Posted, Roll}
 use Rattle.host_ledger.specs.Accounts.{has_endpoint}
-use Rattle.faim_model.specs.Sums.{cycle}
+use Rattle.host_ledger.specs.Sums.{cycle}
 use Rattle.faim_model.specs.Outputs.{Item, count_under, one_if, outputs}
 use Rattle.faim_model.specs.Lawful.{Lawful, Rises}
 use Rattle.faim_model.proofs.Imads.{bytes_equal}

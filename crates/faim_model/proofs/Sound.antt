@@ -1,5 +1,5 @@
 -- The messages that a lawful list holds.
-use Rattle.std.proofs.Common.{◌≡◌, refl, sym, ◌∙◌, ap, subst, ⊎_elim, ℕ, Bool, List, [], ◌∷◌, Option, Ok}
+use Rattle.std.proofs.Common.{◌≡◌, refl, sym, ◌∙◌, subst, ⊎_elim, ℕ, Bool, List, [], ◌∷◌, Option, Ok}
 use Rattle.std.specs.List.{Contains}
 use Rattle.faim_base.specs.declared.ids.Imad.{Imad}
 use Rattle.faim_base.specs.declared.judgement.Head.{Head}

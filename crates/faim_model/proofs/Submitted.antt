@@ -1,7 +1,7 @@
 -- What a submission says of its text.
 use Rattle.std.proofs.Common.{◌≡◌, refl, sym, ◌∙◌, ap, subst, ℕ, ◌<◌, true, false, set, get_or, List, [], ◌∷◌, length, Option, Some, None, option_map, Result, Ok, Err}
 use Rattle.std.specs.Prelude.{codes}
-use Rattle.std.proofs.lemmas.List.{get_or-set_same, set-get_or}
+use Rattle.std.proofs.lemmas.List.{get_or-set_same}
 use Rattle.faim_base.specs.declared.ids.IdFault.{IdFault}
 use Rattle.faim_base.specs.declared.judgement.Head.{Head}
 use Rattle.faim_base.specs.declared.judgement.Reject.{Reject}
@@ -18,7 +18,7 @@ use Rattle.faim_message.specs.Decoded.{decoded}
 use Rattle.faim_message.specs.Heads.{head_of}
 use Rattle.faim_message.proofs.Decodings.{decoded_spelled, spelled_as}
 use Rattle.faim_message.proofs.MarkBytes.{first_place, mark_spells, mark_there, mark_within}
-use Rattle.faim_model.specs.Submissions.{Submission, Strange, Unnumbered, Numbered, failed_edit, submission, submitted_as, text_with, with_head}
+use Rattle.faim_model.specs.Submissions.{Numbered, failed_edit, submission, submitted_as, text_with, with_head}
 use Rattle.faim_model.proofs.Marks.{edits_stay, head_stays, set_twice}
 
 -- the message that a text with an identifier is

@@ -1,5 +1,5 @@
 -- What a turn tells, by what its text is and by how its message was decided on.
-use Rattle.std.proofs.Common.{◌≡◌, ◌≢◌, refl, sym, ◌∙◌, ap, subst, ℕ, ◌+◌, ◌*◌, ◌==◌, ◌&&◌, nat_le, Bool, true, false, not, List, [], ◌∷◌, length, Option, Some, None, is_none, Result, Ok, Err, if◌then◌else◌, arith}
+use Rattle.std.proofs.Common.{◌≡◌, ◌≢◌, refl, ◌∙◌, ap, ℕ, ◌+◌, ◌==◌, ◌&&◌, nat_le, Bool, true, false, not, List, Option, Some, None, is_none, Result, Ok, Err, if◌then◌else◌}
 use Rattle.std.specs.Option.{option_map_or}
 use Rattle.std.specs.Str.{bytes_eq}
 use Rattle.faim_base.specs.declared.ids.IdFault.{IdFault}
@@ -7,7 +7,7 @@ use Rattle.faim_base.specs.declared.judgement.Head.{Head}
 use Rattle.faim_base.specs.declared.judgement.Reject.{Reject}
 use Rattle.faim_base.specs.declared.judgement.Verdict.{Verdict}
 use Rattle.faim_base.specs.declared.judgement.Verdict.TheVariants.{Taken, Refused}
-use Rattle.faim_base.specs.Refusals.{e161, e162, f401, h101, h102, i501, w301, w302, x201}
+use Rattle.faim_base.specs.Refusals.{e161, e162, f401, h101, i501, w301, w302}
 use Rattle.faim_message.specs.declared.form.Form.TheVariants.{Input}
 use Rattle.faim_message.specs.Spelling.{Content, Spells}
 use Rattle.faim_message.specs.Decoded.{decoded}
@@ -18,10 +18,10 @@ use Rattle.host_ledger.specs.declared.entries.Entry.{Entry}
 use Rattle.host_ledger.specs.Accounts.{account_of, endpoint_of, is_served_at}
 use Rattle.faim_model.specs.declared.decisions.Decision.{Decision}
 use Rattle.faim_model.specs.declared.decisions.Decision.TheVariants.{New, Known, Differs, WrongSource}
-use Rattle.faim_model.specs.Sums.{cycle}
+use Rattle.host_ledger.specs.Sums.{cycle, is_below_floor}
 use Rattle.faim_model.specs.Outputs.{sent_in_cycle}
-use Rattle.faim_model.specs.Submissions.{Submission, Strange, Unnumbered, Numbered, failed_edit, submission, submitted_as, with_head}
-use Rattle.faim_model.specs.Verdicts.{has_body, has_imad, is_below_floor, is_customer, is_past, judged, judged_new, place_of, refused}
+use Rattle.faim_model.specs.Submissions.{Strange, Unnumbered, Numbered, failed_edit, submission, submitted_as, with_head}
+use Rattle.faim_model.specs.Verdicts.{has_body, has_imad, is_customer, is_past, judged, judged_new, place_of, refused}
 
 -- what a text is
 pub data TextCase (env : ℕ) (text : List ℕ) : Type 0 where

@@ -1,5 +1,5 @@
 -- What a turn tells and adds, by its verdict; and its verdict, by what it tells.
-use Rattle.std.proofs.Common.{◌≡◌, refl, sym, ◌∙◌, ap, ℕ, ◌==◌, Bool, List, Option, Some, None}
+use Rattle.std.proofs.Common.{◌≡◌, refl, sym, ◌∙◌, ap, ℕ, ◌==◌, Bool, List, Option, Some}
 use Rattle.std.specs.Str.{bytes_eq}
 use Rattle.faim_base.specs.declared.ids.Imad.{Imad}
 use Rattle.faim_base.specs.declared.judgement.Head.{Head}
@@ -10,7 +10,6 @@ use Rattle.host_ledger.specs.declared.config.Config.{Config}
 use Rattle.host_ledger.specs.declared.entries.Entry.{Entry}
 use Rattle.host_ledger.specs.declared.entries.Entry.TheVariants.{Posted}
 use Rattle.faim_model.specs.declared.decisions.Decision.{Decision}
-use Rattle.faim_model.specs.declared.decisions.HostOutcome.{HostOutcome}
 use Rattle.faim_model.specs.declared.decisions.HostOutcome.TheVariants.{Recorded, Known, TurnedAway}
 use Rattle.faim_model.specs.Submissions.{Submission, Strange, Unnumbered, Numbered, submission}
 use Rattle.faim_model.specs.Verdicts.{Answer, Now, Before, Turned, answer_of, has_body, has_imad, judged, place_of, verdict, verdict_on}

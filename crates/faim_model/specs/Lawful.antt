@@ -11,8 +11,8 @@ use Rattle.host_ledger.specs.declared.config.Config.{Config}
 use Rattle.host_ledger.specs.declared.entries.Entry.{Entry}
 use Rattle.host_ledger.specs.declared.entries.Entry.TheVariants.{Posted, Roll}
 use Rattle.host_ledger.specs.Accounts.{account_of, endpoint_of, floor_of, is_served_at}
-use Rattle.faim_model.specs.Lists.{counted}
-use Rattle.faim_model.specs.Sums.{balance, cycle, moves_money}
+use Rattle.host_ledger.specs.Lists.{counted}
+use Rattle.host_ledger.specs.Sums.{balance, cycle, moves_money}
 use Rattle.faim_model.specs.Outputs.{Item, is_under, sent_in_cycle}
 use Rattle.faim_model.specs.Submissions.{Numbered, submission, text_with}
 use Rattle.faim_model.specs.Verdicts.{Now, verdict, has_imad}

@@ -1,7 +1,12 @@
-pub mod Lists
-pub mod Sums
 pub mod Outputs
 pub mod Submissions
 pub mod Verdicts
 pub mod Lawful
 pub mod Turns
+pub mod ServiceTags
+pub mod Acks
+pub mod Deliveries
+pub mod Frames
+pub mod Readings
+pub mod Items
+pub mod Payloads

@@ -7,8 +7,8 @@ use Rattle.host_ledger.specs.declared.config.Config.{Config}
 use Rattle.host_ledger.specs.declared.entries.Entry.{Entry}
 use Rattle.host_ledger.specs.declared.entries.Entry.TheVariants.{Posted, Roll}
 use Rattle.host_ledger.specs.Accounts.{has_endpoint}
-use Rattle.faim_model.specs.Lists.{counted}
-use Rattle.faim_model.specs.Sums.{cycle}
+use Rattle.host_ledger.specs.Lists.{counted}
+use Rattle.host_ledger.specs.Sums.{cycle}
 
 -- an output: its position, and the entry that gives it with its place, the oldest entry being at 0
 pub record Item : Type 0 where

@@ -1,5 +1,5 @@
 -- The verdict on a text that comes from a line at a moment.
-use Rattle.std.specs.Prelude.{ℕ, ◌+◌, ◌*◌, ◌==◌, nat_le, Bool, false, not, ◌&&◌, List, [], ◌∷◌, length, codes, bytes_eq, if◌then◌else◌, Option, Some, None, is_none, pos, ◌-ℤ◌, int_lt}
+use Rattle.std.specs.Prelude.{ℕ, ◌+◌, ◌*◌, ◌==◌, nat_le, Bool, false, not, ◌&&◌, List, [], ◌∷◌, length, codes, bytes_eq, if◌then◌else◌, Option, Some, None, is_none}
 use Rattle.std.specs.Option.{option_map_or}
 use Rattle.faim_base.specs.declared.ids.Imad.{Imad}
 use Rattle.faim_base.specs.declared.judgement.Head.{Head}
@@ -12,8 +12,8 @@ use Rattle.host_ledger.specs.declared.entries.Entry.{Entry}
 use Rattle.host_ledger.specs.declared.entries.Entry.TheVariants.{Posted, Roll}
 use Rattle.faim_model.specs.declared.decisions.Decision.{Decision}
 use Rattle.faim_model.specs.declared.decisions.Decision.TheVariants.{New, Known, Differs, WrongSource}
-use Rattle.host_ledger.specs.Accounts.{account_of, endpoint_of, floor_of, is_served_at}
-use Rattle.faim_model.specs.Sums.{moves_money, balance, cycle}
+use Rattle.host_ledger.specs.Accounts.{account_of, endpoint_of, is_served_at}
+use Rattle.host_ledger.specs.Sums.{cycle, is_below_floor}
 use Rattle.faim_model.specs.Outputs.{sent_in_cycle}
 use Rattle.faim_model.specs.Submissions.{Submission, Strange, Unnumbered, Numbered, submission}
 
@@ -42,10 +42,6 @@ is_customer h = bytes_eq h.code (codes "CTR")
 -- at or after a cutoff of the present cycle date, in minutes of that day
 abbrev pub is_past : Config → List Entry → ℕ → ℕ → Bool
 is_past c es cutoff t = nat_le (1440 * cycle c es + cutoff) t
-
--- the sender's balance would go below its floor
-abbrev pub is_below_floor : Config → List Entry → Head → Bool
-is_below_floor c es h = moves_money h && int_lt (balance c es h.sender -ℤ pos h.amount) (floor_of c h.sender)
 
 -- a new refusal
 abbrev pub refused : Reject → Decision

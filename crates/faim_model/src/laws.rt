@@ -1,6 +1,6 @@
 // Laws of lists of entries, the newest first, and of what a host does with a text (docs/FORMATS.md, "The order of
 // verdicts").
-ghost use Rattle.std.specs.Prelude.{◌≡◌, ◌≢◌, ◌+◌, ◌<◌, ◌≤◌, ◌≤ℤ◌, ◌+ℤ◌, ◌-ℤ◌, ◌&&◌, bytes_eq, if◌then◌else◌, pos, min, length, ℕ, Bool, true, false, List, [], ◌∷◌, ◌++◌, Option, Some, None, Ok, Err, ◌==◌, ◌↔◌, IsTrue};
+ghost use Rattle.std.specs.Prelude.{◌≡◌, ◌≢◌, ◌+◌, ◌<◌, ◌≤◌, ◌≤ℤ◌, ◌-ℤ◌, pos, min, length, ℕ, Bool, true, false, List, [], ◌∷◌, ◌++◌, Option, Some, None, Ok, Err, ◌==◌, ◌↔◌, IsTrue};
 ghost use Rattle.faim_base.specs.declared.ids.Imad.{Imad};
 ghost use Rattle.faim_base.specs.declared.ids.OutPos.{OutPos};
 ghost use Rattle.faim_base.specs.declared.judgement.Head.{Head};
@@ -24,8 +24,8 @@ ghost use Rattle.host_ledger.specs.Ranges.{IsEntry};
 ghost use Rattle.host_ledger.specs.Soundness.{IsConfig};
 ghost use Rattle.std.specs.List.{Contains};
 ghost use Rattle.std.specs.Int.{int_min};
-ghost use Rattle.faim_model.specs.Lists.{counted, total};
-ghost use Rattle.faim_model.specs.Sums.{balance, cycle, gives, moves_money, takes};
+ghost use Rattle.host_ledger.specs.Lists.{counted, total};
+ghost use Rattle.host_ledger.specs.Sums.{balance, cycle, moves_money};
 ghost use Rattle.faim_model.specs.Outputs.{Item, count_under, is_from, outputs, retrieved, sent_in_cycle};
 ghost use Rattle.faim_model.specs.Submissions.{Numbered, submission};
 ghost use Rattle.faim_model.specs.Verdicts.{Before, Now, Turned, judged, verdict};
@@ -43,42 +43,15 @@ pub fn numbered_in_order()
         → numbers_under date (outputs c es e) ≡ one_to (count_under date (outputs c es e)) }
 {}
 
+/// Each cycle has a number left for its end: in the present cycle an endpoint has at most 999,998 outputs.
+pub fn cycles_have_a_number_left()
+    ensures { (c : Config) (es : List Entry) (e : List ℕ) → Lawful c es → sent_in_cycle c es e ≤ 999_998 }
+{}
+
 /// Each output's place is the place of the entry that gives it.
 pub fn outputs_stand_at_their_places()
     ensures { (c : Config) (es : List Entry) (e : List ℕ) (i : Item)
         → Contains (outputs c es e) i → entry_at es i.place ≡ Some i.entry }
-{}
-
-/// An entry moves each balance by what it gives the account and what it takes from it, in cents.
-pub fn balance_moves()
-    ensures { (c : Config) (x : Entry) (older : List Entry) (aba : List ℕ)
-        → balance c (x ∷ older) aba
-        ≡ (balance c older aba +ℤ pos (gives x aba)) -ℤ pos (takes x aba) }
-{}
-
-/// The cycle date is the opening date at first, and then that of the last `Roll`; messages leave it.
-pub fn rolls_alone_move_the_cycle()
-    ensures opening { (c : Config) → cycle c [] ≡ c.date }
-    ensures rolled { (c : Config) (older : List Entry) (moment date : ℕ)
-        → cycle c (Roll moment date ∷ older) ≡ date }
-    ensures posted { (c : Config) (older : List Entry) (h : Head) (body : List ℕ) (resent : Bool)
-        (moment : ℕ) (v : Verdict)
-        → cycle c (Posted h body resent moment v ∷ older) ≡ cycle c older }
-{}
-
-/// Accepted messages of the subtypes that move money move it, from the sender to the receiver, and no others do. Amounts
-/// are in cents.
-pub fn accepted_messages_alone_move_money()
-    ensures accepted { (h : Head) (body : List ℕ) (resent : Bool) (moment : ℕ) (dest : List ℕ) (seq : ℕ) (aba : List ℕ)
-        → (gives (Posted h body resent moment (Taken dest seq)) aba
-        ≡ (if moves_money h && bytes_eq h.receiver aba then h.amount else 0))
-        × (takes (Posted h body resent moment (Taken dest seq)) aba
-        ≡ (if moves_money h && bytes_eq h.sender aba then h.amount else 0)) }
-    ensures refused { (h : Head) (body : List ℕ) (resent : Bool) (moment : ℕ) (why : Reject) (aba : List ℕ)
-        → (gives (Posted h body resent moment (Refused why)) aba ≡ 0)
-        × (takes (Posted h body resent moment (Refused why)) aba ≡ 0) }
-    ensures rolled { (moment date : ℕ) (aba : List ℕ)
-        → (gives (Roll moment date) aba ≡ 0) × (takes (Roll moment date) aba ≡ 0) }
 {}
 
 /// The moments of a lawful list never fall.

@@ -5,7 +5,6 @@ use Rattle.faim_base.specs.Limits.{longest_message}
 use Rattle.faim_base.specs.declared.judgement.Refused as refusals
 use Rattle.faim_edits.specs.Printing.{table_text}
 use Rattle.faim_top.specs.declared.command.Command.{Command}
-use Rattle.faim_edits.specs.Printing.{table_text}
 use Rattle.faim_top.specs.declared.command.Command.TheVariants.{Check, Table, Replay}
 use Rattle.faim_top.specs.declared.script.Script.{Script}
 use Rattle.faim_top.specs.declared.script.ScriptFault.{ScriptFault}

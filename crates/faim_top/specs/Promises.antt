@@ -12,8 +12,8 @@ use Rattle.host_ledger.specs.declared.config.Config.{Config}
 use Rattle.host_ledger.specs.declared.entries.Entry.{Entry}
 use Rattle.host_ledger.specs.declared.entries.Entry.TheVariants.{Posted}
 use Rattle.faim_model.specs.declared.decisions.HostOutcome.TheVariants.{Known, TurnedAway}
-use Rattle.faim_model.specs.Lists.{total}
-use Rattle.faim_model.specs.Sums.{balance}
+use Rattle.host_ledger.specs.Lists.{total}
+use Rattle.host_ledger.specs.Sums.{balance}
 use Rattle.faim_model.specs.Outputs.{outputs, count_under}
 use Rattle.faim_model.specs.Submissions.{Numbered, submission}
 use Rattle.faim_model.specs.Lawful.{Lawful, numbers_under, one_to, times_posted}

@@ -5,7 +5,7 @@ use Rattle.host_ledger.specs.declared.config.Config.{Config}
 use Rattle.host_ledger.specs.declared.entries.Entry.{Entry}
 use Rattle.host_ledger.specs.Accounts.{endpoints_of}
 use Rattle.faim_model.specs.declared.decisions.HostOutcome.{HostOutcome}
-use Rattle.faim_model.specs.Sums.{balance, cycle}
+use Rattle.host_ledger.specs.Sums.{balance, cycle}
 use Rattle.faim_model.specs.Outputs.{outputs}
 use Rattle.faim_model.specs.Turns.{HostTurn, adds_to, submitted, retrieved_turn}
 use Rattle.faim_top.specs.declared.script.Script.{Script}

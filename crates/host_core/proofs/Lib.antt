@@ -1,3 +1,4 @@
 mod Payment
 pub mod Places
 pub mod Retrieval
+pub mod ItemPlaces

@@ -1,7 +1,7 @@
 -- What a host knows: its configuration and its entries, the newest first.
 use Rattle.std.specs.Prelude.{ℕ, nat_le, List, [], ◌∷◌, Option, Some, None, if◌then◌else◌}
 use Rattle.faim_model.specs.Outputs.{Item}
-use Rattle.faim_model.specs.Sums.{cycle}
+use Rattle.host_ledger.specs.Sums.{cycle}
 use Rattle.host_ledger.specs.declared.config.Config.{Config}
 use Rattle.host_ledger.specs.declared.entries.Entry.{Entry}
 use Rattle.host_core.specs.declared.rolls.RollCase.{RollCase}

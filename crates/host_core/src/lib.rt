@@ -2,6 +2,7 @@
 #![tactic(auto)]
 
 mod outputs;
+mod positions;
 mod rolls;
 mod search;
 mod state;
@@ -13,3 +14,4 @@ mod verdict;
 pub use faim_model::{Decision, HostOutcome};
 pub use rolls::RollCase;
 pub use state::{HostState, Judged};
+pub use totals::moves_money;

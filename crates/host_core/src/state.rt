@@ -3,14 +3,16 @@ ghost use Rattle.std.specs.Prelude.{◌≡◌, ◌==◌, ◌∷◌, [], length, 
 ghost use Rattle.std.specs.Option.{option_copied};
 ghost use Rattle.host_ledger.specs.Accounts.{account_of};
 ghost use Rattle.host_ledger.specs.Soundness.{IsConfig};
-ghost use Rattle.faim_model.specs.Sums.{balance, cycle};
+ghost use Rattle.host_ledger.specs.Sums.{balance, cycle};
 ghost use Rattle.faim_model.specs.Outputs.{outputs, retrieved, places_of};
+ghost use Rattle.faim_model.specs.Items.{position_at};
 ghost use Rattle.faim_model.specs.Verdicts.{judged};
 ghost use Rattle.faim_model.specs.Lawful.{Follows, Lawful, moment_of};
 ghost use Rattle.faim_model.specs.Turns.{effective, entry_at};
 ghost use Rattle.host_core.specs.State.{roll_case};
 
 use crate::outputs::{count_outputs, outputs_from};
+use crate::positions::position_at;
 use crate::rolls::RollCase;
 use crate::search::{place_of_body, place_of_imad};
 use crate::totals::{balance_of, cycle_after};
@@ -175,6 +177,14 @@ impl HostState {
         ensures { result ≡ length (outputs self.now.config self.now.entries dest) }
     {
         count_outputs(&self.config, self.entries.as_slice(), dest)
+    }
+
+    /// The position of the output that the entry at a place gives the endpoint. None exactly where it gives the endpoint
+    /// none. It takes no memory and changes nothing.
+    pub fn position(&self, dest: Endpoint, place: usize) -> Option<OutPos>
+        ensures { result ≡ position_at self.now.config self.now.entries dest place }
+    {
+        position_at(&self.config, self.entries.as_slice(), dest, place)
     }
 
     /// The places of the entries that give the endpoint its outputs at a position or after it, in order, at most the first

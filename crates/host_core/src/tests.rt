@@ -191,6 +191,34 @@ fn a_roll_ends_the_cycle_of_each_endpoint(rt: HostRuntime) -> Result<(), Fail> {
 }
 
 #[test]
+fn an_entry_gives_its_position(rt: HostRuntime) -> Result<(), Fail> {
+    let (mut state, entry) = opened(rt.alloc())?;
+    state.push(entry)?;
+    roll(&mut state, moment(12_625_919)?, date(8768)?)?;
+    let cases: [(&[u8; 8], usize, Option<u32>); 7] = [
+        (b"BANKA001", 0, None),
+        (b"BANKA001", 1, Some(1)),
+        (b"BANKB001", 0, Some(1)),
+        (b"BANKB001", 1, Some(2)),
+        (b"BANKB001", 2, None),
+        (b"NOBANK01", 0, None),
+        (b"NOBANK01", 1, None),
+    ];
+    for (name, place, want) in cases {
+        match state.position(bank(name)?, place) {
+            Some(at) => {
+                assert_eq!(rt; Some(at.seq.get()), want);
+                assert_eq!(rt; at.date.get(), 8767);
+            }
+            None => {
+                assert!(rt; want.is_none());
+            }
+        }
+    }
+    Ok(())
+}
+
+#[test]
 fn a_new_cycle_numbers_from_one(rt: HostRuntime) -> Result<(), Fail> {
     let (mut state, entry) = opened(rt.alloc())?;
     state.push(entry)?;

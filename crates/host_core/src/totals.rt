@@ -1,6 +1,6 @@
 // Sums and counts over the list of entries.
 ghost use Rattle.std.specs.Prelude.{◌≡◌, ◌^◌, ◌≤◌, reverse, pos, neg_ℤ, ◌+ℤ◌, ◌-ℤ◌, ◌≤ℤ◌};
-ghost use Rattle.faim_model.specs.Sums.{cycle, gives, takes, received, paid, moves_money};
+ghost use Rattle.host_ledger.specs.Sums.{cycle, gives, takes, received, paid, moves_money};
 
 use faim_base::{Aba, CycleDate, Head, Verdict};
 use host_ledger::{Config, Entry};
@@ -18,7 +18,8 @@ pub(crate) fn cycle_after(config: &Config, entries: &[Entry]) -> CycleDate
     date
 }
 
-pub(crate) fn moves_money(head: &Head) -> bool
+/// Whether a message of this subtype moves money from its sender to its receiver.
+pub fn moves_money(head: &Head) -> bool
     ensures { result ≡ moves_money head.now }
 {
     matches!(head.sub, 0 | 2 | 8 | 32)

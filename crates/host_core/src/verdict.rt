@@ -5,7 +5,8 @@ ghost use Rattle.faim_base.specs.Refusals.{refusal};
 ghost use Rattle.faim_model.specs.declared.decisions.Decision.TheVariants.{New};
 ghost use Rattle.host_ledger.specs.declared.config.Config.{Config};
 ghost use Rattle.host_ledger.specs.Accounts.{account_of};
-ghost use Rattle.faim_model.specs.Verdicts.{judged_new, is_below_floor, is_customer};
+ghost use Rattle.host_ledger.specs.Sums.{is_below_floor};
+ghost use Rattle.faim_model.specs.Verdicts.{judged_new, is_customer};
 
 use crate::outputs::count_under;
 use crate::totals::{balance_of, cycle_after, moves_money};

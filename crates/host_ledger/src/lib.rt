@@ -1,9 +1,12 @@
-//! The configuration of a host, and the entries of its list.
+//! The configuration of a host, the entries of its list, and the balances that they make.
 #![tactic(auto)]
 
 mod accounts;
 mod config;
 mod entries;
+mod funds;
+mod laws;
+mod ledger;
 mod refusals;
 mod soundness;
 #[cfg(test)]
@@ -12,6 +15,11 @@ mod tests;
 pub use accounts::{account_in, add_endpoint, endpoints_of, has_endpoint};
 pub use config::{Account, Accounts, Config};
 pub use entries::{Entries, Entry};
+pub use laws::{
+    accepted_messages_alone_move_money, balance_moves, rolls_alone_move_the_cycle,
+    rolls_leave_ledgers,
+};
+pub use ledger::Ledger;
 pub use refusals::is_recorded;
 pub use soundness::{
     ACCOUNT_LIMIT, ENDPOINT_LIMIT, GREATEST_CUTOFF, OPERATOR, is_balance, is_env, one_account_more,

@@ -3,6 +3,8 @@ use faim_base::{Aba, Bytes, Cents, CycleDate, Endpoint, Head, Imad, Moment, Reje
 use std::alloc::Global;
 use std::test::Fail;
 
+mod balances;
+
 #[test]
 fn entries_grow_at_their_newest_end(rt: HostRuntime) -> Result<(), Fail> {
     let alloc: Global = rt.alloc();

@@ -2,6 +2,8 @@
 ghost use Rattle.std.specs.Prelude.{IfOk};
 ghost use Rattle.host_ledger.specs.Soundness.{IsConfig};
 
+mod answers;
+
 use crate::{retrieve, submit};
 use faim_base::{Aba, CycleDate, Endpoint, Imad, Moment, OutPos, Reject, Seq, Verdict};
 use faim_model::HostOutcome;

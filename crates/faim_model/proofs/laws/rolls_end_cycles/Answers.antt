@@ -1,8 +1,8 @@
 use Rattle.std.proofs.Common.{Bool, ◌+◌, ◌++◌, length, ap}
 use Rattle.host_ledger.specs.declared.entries.Entry.TheVariants.{Roll}
-use Rattle.faim_model.specs.Sums.{cycle}
+use Rattle.host_ledger.specs.Sums.{cycle}
 use Rattle.faim_model.specs.Outputs.{Item, one_if, outputs, sent_in_cycle}
-use Rattle.faim_model.proofs.Balances.{roll_leaves}
+use Rattle.host_ledger.proofs.Balances.{roll_leaves}
 use Rattle.faim_model.proofs.laws.rolls_end_cycles.Goals as goal
 
 pub returns-clause-later : goal.returns-clause-later

@@ -1,7 +1,7 @@
 use Rattle.std.proofs.Common.{◌≡◌, ℕ, List, [], ◌∷◌, ◌++◌, length, reverse, take, sym, ◌∙◌, ap, arith}
 use Rattle.std.proofs.lemmas.List.{length-reverse, length-take-le}
 use Rattle.host_ledger.specs.declared.entries.Entry.{Entry}
-use Rattle.faim_model.specs.Outputs.{outputs, retrieved, places_of}
+use Rattle.faim_model.specs.Outputs.{retrieved, places_of}
 use Rattle.host_core.proofs.Places.{newest}
 use Rattle.host_core.proofs.Retrieval.{kept_with, kept_without}
 use Rattle.host_core.proofs.outputs.outputs_from.Goals as goal

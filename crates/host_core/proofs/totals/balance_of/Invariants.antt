@@ -1,5 +1,5 @@
 use Rattle.std.proofs.Common.{◌≡◌, ◌≤◌, ◌*◌, reverse, take}
-use Rattle.faim_model.specs.Sums.{received, paid}
+use Rattle.host_ledger.specs.Sums.{received, paid}
 use Rattle.host_core.proofs.totals.balance_of.Given as goal
 
 abbrev pub invariant-loop-entry : goal.invariant-loop-entry

@@ -1,5 +1,5 @@
 use Rattle.std.proofs.Common.{◌≡◌, reverse, take}
-use Rattle.faim_model.specs.Sums.{cycle}
+use Rattle.host_ledger.specs.Sums.{cycle}
 use Rattle.host_core.proofs.totals.cycle_after.Given as goal
 
 abbrev pub invariant-loop-entry : goal.invariant-loop-entry
