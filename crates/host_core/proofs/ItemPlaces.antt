@@ -1,11 +1,11 @@
 -- The item that the entry at a place gives is that of the entry, after the entries before it.
-use Rattle.std.proofs.Common.{◌≡◌, ℕ, ◌+◌, ◌<◌, ◌≤◌, ◌==◌, Bool, true, false, List, [], ◌∷◌, ◌++◌, length, take, drop, get_or, reverse, Option, Some, None, option_map, sym, ◌∙◌, ap, refl, subst, arith, length-append}
+use Rattle.std.proofs.Common.{◌≡◌, ℕ, ◌<◌, ◌≤◌, ◌==◌, Bool, true, false, List, [], ◌∷◌, ◌++◌, length, Option, Some, None, option_map, ◌∙◌, ap, refl, arith, length-append}
 use Rattle.std.specs.List.{find}
 use Rattle.std.specs.Option.{option_or}
 use Rattle.std.proofs.lemmas.Bool.Decides.{nat_tests}
-use Rattle.std.proofs.lemmas.List.{take-append-drop, reverse-append, length-reverse, length-take-le}
 use Rattle.std.proofs.lemmas.List.Folds.{find-append}
 use Rattle.std.specs.Str.{bytes_eq}
+use Rattle.faim_base.specs.declared.ids.OutPos.{OutPos}
 use Rattle.faim_base.specs.declared.judgement.Verdict.TheVariants.{Taken, Refused}
 use Rattle.host_ledger.specs.declared.config.Config.{Config}
 use Rattle.host_ledger.specs.declared.entries.Entry.{Entry}
@@ -14,8 +14,11 @@ use Rattle.host_ledger.specs.Accounts.{has_endpoint}
 use Rattle.faim_model.specs.Outputs.{Item, item_of, one_if, outputs}
 use Rattle.faim_model.specs.Items.{item_at, position_at}
 use Rattle.faim_model.specs.Lawful.{Lawful}
-use Rattle.host_core.specs.Positions.{position_in}
-use Rattle.host_core.proofs.Places.{newest}
+
+-- the position of the first item
+abbrev pub position_in : List Item → Option OutPos
+position_in [] = None
+position_in (i ∷ items) = Some i.at
 
 abbrev stands_at : ℕ → Item → Bool
 stands_at place i = i.place == place
@@ -43,7 +46,7 @@ own_met c older before (Posted h body resent moment (Refused why)) e = refl
 own_met c older before (Roll moment date) e = one_met (has_endpoint c.accounts e) _ (length older) refl
 
 -- nothing is given at a place that isn't there
-none_past : (c : Config) (es : List Entry) (e : List ℕ) (place : ℕ) → length es ≤ place → item_at c es e place ≡ None
+pub none_past : (c : Config) (es : List Entry) (e : List ℕ) (place : ℕ) → length es ≤ place → item_at c es e place ≡ None
 none_past c [] e place le = refl
 none_past c (x ∷ older) e place le =
     find-append (stands_at place) (outputs c older e) (item_of c older (outputs c older e) x e)
@@ -82,7 +85,7 @@ one_newer c older x e place lt =
     ∙ or_none (item_at c older e place)
 
 -- the entry between newer and older ones
-given_between : (c : Config) (newer : List Entry) (x : Entry) (older : List Entry) (e : List ℕ)
+pub given_between : (c : Config) (newer : List Entry) (x : Entry) (older : List Entry) (e : List ℕ)
     → position_at c (newer ++ x ∷ older) e (length older) ≡ position_in (item_of c older (outputs c older e) x e)
 given_between c [] x older e = newest_gives c older x e
 given_between c (y ∷ newer) x older e =
@@ -90,29 +93,6 @@ given_between c (y ∷ newer) x older e =
     ap (λ (o : Option Item). option_map (λ (j : Item). j.at) o) (one_newer c (newer ++ x ∷ older) y e (length older) later)
     ∙ given_between c newer x older e
 
-lawful_before : (c : Config) (newer : List Entry) (x : Entry) (older : List Entry) → Lawful c (newer ++ x ∷ older) → Lawful c older
+pub lawful_before : (c : Config) (newer : List Entry) (x : Entry) (older : List Entry) → Lawful c (newer ++ x ∷ older) → Lawful c older
 lawful_before c [] x older lawful = lawful.1
 lawful_before c (y ∷ newer) x older lawful = lawful_before c newer x older lawful.1
-
--- a list that is kept oldest first, about the entry at a place
-around : (xs : List Entry) (i : ℕ) (x : Entry) → i < length xs → x ≡ get_or xs i x → reverse xs ≡ reverse (drop (i + 1) xs) ++ x ∷ reverse (take i xs)
-around xs i x lt at =
-    ap reverse (sym (take-append-drop (i + 1) xs)) ∙ reverse-append (take (i + 1) xs) (drop (i + 1) xs)
-    ∙ ap (λ (l : List Entry). reverse (drop (i + 1) xs) ++ l) (newest xs i x lt at)
-
-pub lawful_at : (c : Config) (xs : List Entry) (i : ℕ) (x : Entry) → i < length xs → x ≡ get_or xs i x → Lawful c (reverse xs) → Lawful c (reverse (take i xs))
-lawful_at c xs i x lt at lawful =
-    lawful_before c (reverse (drop (i + 1) xs)) x (reverse (take i xs)) (subst (λ (es : List Entry). Lawful c es) (around xs i x lt at) lawful)
-
-pub given_at : (c : Config) (xs : List Entry) (i : ℕ) (x : Entry) (e : List ℕ) → i < length xs → x ≡ get_or xs i x
-    → position_at c (reverse xs) e i ≡ position_in (item_of c (reverse (take i xs)) (outputs c (reverse (take i xs)) e) x e)
-given_at c xs i x e lt at =
-    let older = reverse (take i xs) in
-    let long : i ≡ length older = sym (length-reverse (take i xs) ∙ length-take-le i xs (omega (arith, lt))) in
-    ap (λ (es : List Entry). position_at c es e i) (around xs i x lt at)
-    ∙ ap (λ (n : ℕ). position_at c (reverse (drop (i + 1) xs) ++ x ∷ older) e n) long
-    ∙ given_between c (reverse (drop (i + 1) xs)) x older e
-
-pub none_at : (c : Config) (xs : List Entry) (e : List ℕ) (place : ℕ) → length xs ≤ place → position_at c (reverse xs) e place ≡ None
-none_at c xs e place le =
-    ap (λ (o : Option Item). option_map (λ (j : Item). j.at) o) (none_past c (reverse xs) e place (omega (arith, length-reverse xs, le)))

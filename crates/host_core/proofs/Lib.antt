@@ -1,4 +1,8 @@
 mod Payment
 pub mod Places
-pub mod Retrieval
 pub mod ItemPlaces
+pub mod Endpoints
+pub mod Given
+pub mod Known
+pub mod CycleEnds
+pub mod Holding

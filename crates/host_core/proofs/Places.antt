@@ -1,6 +1,6 @@
 -- The entry at a place of a list that is kept oldest first.
-use Rattle.std.proofs.Common.{◌≡◌, ℕ, ◌+◌, ◌-◌, ◌<◌, ◌≤◌, List, [], ◌∷◌, ◌++◌, length, take, get_or, reverse, Some, None, sym, ◌∙◌, ap, refl, arith}
-use Rattle.std.proofs.lemmas.List.{get_or-reverse, length-reverse, take_more, reverse-append}
+use Rattle.std.proofs.Common.{◌≡◌, ℕ, ◌-◌, ◌<◌, ◌≤◌, List, [], ◌∷◌, length, get_or, reverse, Some, None, ◌∙◌, ap, refl, arith}
+use Rattle.std.proofs.lemmas.List.{get_or-reverse, length-reverse}
 use Rattle.std.proofs.lemmas.Bool.Decides.{nat_tests}
 use Rattle.host_ledger.specs.declared.entries.Entry.{Entry}
 use Rattle.faim_model.specs.Turns.{entry_at}
@@ -23,7 +23,3 @@ entry_found xs place d lt =
 
 pub entry_missing : (xs : List Entry) (place : ℕ) → length xs ≤ place → entry_at (reverse xs) place ≡ None
 entry_missing xs place le = missing_in (reverse xs) place (omega (arith, length-reverse xs))
-
--- one entry more of a list that is gone through
-pub newest : (xs : List Entry) (i : ℕ) (x : Entry) → i < length xs → x ≡ get_or xs i x → reverse (take (i + 1) xs) ≡ x ∷ reverse (take i xs)
-newest xs i x lt at = ap reverse (take_more xs i x lt ∙ ap (λ (y : Entry). take i xs ++ y ∷ []) (sym at)) ∙ reverse-append (take i xs) (x ∷ [])

@@ -1,5 +1,5 @@
 // The host's configuration and its list.
-ghost use Rattle.std.specs.Prelude.{◌≡◌, ◌==◌, ◌∷◌, [], length, Some, None, IfOk, OnOk, OnErr, if◌then◌else◌, is_some};
+ghost use Rattle.std.specs.Prelude.{◌≡◌, ◌==◌, ◌∷◌, ◌-◌, [], length, drop, Some, None, IfOk, OnOk, OnErr, if◌then◌else◌, is_some};
 ghost use Rattle.std.specs.Option.{option_copied};
 ghost use Rattle.host_ledger.specs.Accounts.{account_of};
 ghost use Rattle.host_ledger.specs.Soundness.{IsConfig};
@@ -11,17 +11,18 @@ ghost use Rattle.faim_model.specs.Lawful.{Follows, Lawful, moment_of};
 ghost use Rattle.faim_model.specs.Turns.{effective, entry_at};
 ghost use Rattle.host_core.specs.State.{roll_case};
 
-use crate::outputs::{count_outputs, outputs_from};
-use crate::positions::position_at;
+mod changing;
+mod judging;
+mod places;
+
 use crate::rolls::RollCase;
-use crate::search::{place_of_body, place_of_imad};
-use crate::totals::{balance_of, cycle_after};
-use crate::verdict::verdict_on;
 use faim_base::{
-    Aba, CycleDate, Endpoint, Head, Moment, NoMemory, OutPos, Places, Reject, Seq, Verdict,
+    Aba, CycleDate, Endpoint, Endpoints, Head, Moment, NoMemory, OutPos, Places, Reject,
 };
 use faim_model::Decision;
-use host_ledger::{Config, Entries, Entry};
+use host_index::HostIndex;
+use host_ledger::{Config, Entry, Ledger, endpoints_of};
+use places::position_by;
 use std::alloc::Global;
 use std::marker::Model;
 
@@ -35,24 +36,33 @@ pub struct Judged<'a> {
     pub edit: Option<Reject>,
 }
 
-/// What a host knows: its configuration and its list of entries.
-#[derive(Debug, Drop)]
+/// What a host knows: its configuration and its list of entries. `new`, `push` and `retrieve` may want memory.
+///
+/// Beside the list stand the cycle date before each entry and after the last, the endpoints of the accounts, the running
+/// balances and the index, so that no call searches the list.
+#[derive(Drop)]
 pub struct HostState {
     alloc: Global,
     config: Config,
-    entries: Entries,
+    entries: Vec<Entry>,
+    cycles: Vec<CycleDate>,
+    endpoints: Endpoints,
+    ledger: Ledger,
+    index: HostIndex,
 }
 
 impl Model for HostState {
+    ghost use Rattle.std.specs.Prelude.{reverse};
     ghost use Rattle.host_ledger.specs.Soundness.{IsConfig};
     ghost use Rattle.faim_model.specs.Lawful.{Lawful};
+    ghost use Rattle.host_core.specs.Kept.{Kept};
     ghost use Rattle.host_core.specs.State.{State};
 
     ghost Value = { State };
 
-    ghost view = { λ s. record { config = s.config; entries = s.entries } };
+    ghost view = { λ s. record { config = s.config; entries = reverse s.entries.items } };
 
-    ghost invariant = { λ s. IsConfig s.config × Lawful s.config s.entries };
+    ghost invariant = { λ s. IsConfig s.config × Lawful s.config (reverse s.entries.items) × Kept s.config (reverse s.entries.items) s.ledger s.index s.cycles.items s.endpoints };
 }
 
 impl HostState {
@@ -61,10 +71,18 @@ impl HostState {
         requires { IsConfig config }
         ensures { IfOk result (λ s. s ≡ record { config = config; entries = [] }) }
     {
+        let ledger = Ledger::new(alloc, &config)?;
+        let endpoints = endpoints_of(alloc, config.accounts.as_slice())?;
+        let mut cycles = Vec::new(alloc);
+        cycles.push(config.date)?;
         Ok(HostState {
             alloc,
             config,
-            entries: Entries::new(alloc),
+            entries: Vec::new(alloc),
+            cycles,
+            endpoints,
+            ledger,
+            index: HostIndex::new(alloc),
         })
     }
 
@@ -94,17 +112,13 @@ impl HostState {
         ensures { result ≡ judged self.now.config self.now.entries line moment message.now.head message.now.body.now message.now.edit }
     {
         let head = &message.head;
-        let entries = self.entries.as_slice();
         if head.imad.source != line {
             return Decision::WrongSource;
         }
-        if let Some(place) = place_of_body(entries, &head.imad, message.body) {
-            return Decision::Known(place);
+        match self.find(&head.imad) {
+            Some(place) => self.known(place, &head.imad, message.body),
+            None => Decision::New(self.verdict_on(line, head, message.edit, moment)),
         }
-        if let Some(place) = place_of_imad(entries, &head.imad) {
-            return Decision::Differs(place);
-        }
-        Decision::New(verdict_on(&self.config, entries, line, head, message.edit, moment))
     }
 
     /// What becomes of a Roll to a date: `NotLater` exactly where the date is at or before the present cycle date
@@ -126,14 +140,33 @@ impl HostState {
         ensures ok { OnOk result (self.new ≡ record { config = self.old.config; entries = entry ∷ self.old.entries }) }
         ensures err { OnErr result (self.new ≡ self.old) }
     {
-        self.entries.push(entry)
+        match entry {
+            Entry::Posted {
+                head,
+                body,
+                resent,
+                moment,
+                verdict,
+            } => self.post(head, body, resent, moment, verdict),
+            Entry::Roll { moment, date } => self.roll(moment, date),
+        }
+    }
+
+    /// Takes the entries back from the last one on, until no more than so many are left: the first ones. It takes no memory.
+    pub fn cut(&mut self, len: usize)
+        ensures { self.new ≡ record { config = self.old.config; entries = drop (length self.old.entries - len) self.old.entries } }
+    {
+        while len < self.len() {
+            self.take_back();
+        }
     }
 
     /// The present cycle date: the date of the last `Roll`, or the opening date.
     pub fn cycle(&self) -> CycleDate
         ensures { result ≡ cycle self.now.config self.now.entries }
     {
-        cycle_after(&self.config, self.entries.as_slice())
+        let cycles = self.cycles.as_slice();
+        cycles[self.entries.as_slice().len()]
     }
 
     /// How many entries there are.
@@ -168,23 +201,27 @@ impl HostState {
     pub fn balance(&self, aba: &Aba) -> Option<i128>
         ensures { result ≡ (if is_some (account_of self.now.config aba.now) then Some (balance self.now.config self.now.entries aba.now) else None) }
     {
-        let account = self.config.account(aba)?;
-        Some(balance_of(account.opening, self.entries.as_slice(), aba))
+        self.ledger.balance(aba)
     }
 
     /// How many outputs the endpoint has, over all cycles.
     pub fn outputs(&self, dest: Endpoint) -> usize
         ensures { result ≡ length (outputs self.now.config self.now.entries dest) }
     {
-        count_outputs(&self.config, self.entries.as_slice(), dest)
+        self.index.total(dest)
     }
 
     /// The position of the output that the entry at a place gives the endpoint. None exactly where it gives the endpoint
     /// none. It takes no memory and changes nothing.
+    #[tactic(auto, using(crate::proofs::CycleEnds::message_at, crate::proofs::CycleEnds::nothing_there))]
     pub fn position(&self, dest: Endpoint, place: usize) -> Option<OutPos>
         ensures { result ≡ position_at self.now.config self.now.entries dest place }
     {
-        position_at(&self.config, self.entries.as_slice(), dest, place)
+        match self.entry(place) {
+            Some(Entry::Posted { head, verdict, .. }) => position_by(head, verdict, dest),
+            Some(Entry::Roll { .. }) => self.end_at(dest, place),
+            None => None,
+        }
     }
 
     /// The places of the entries that give the endpoint its outputs at a position or after it, in order, at most the first
@@ -192,7 +229,7 @@ impl HostState {
     pub fn retrieve(&self, dest: Endpoint, at: OutPos) -> Result<Places, NoMemory>
         ensures { IfOk result (λ places. places ≡ places_of (retrieved self.now.config self.now.entries dest at)) }
     {
-        outputs_from(self.alloc, &self.config, self.entries.as_slice(), dest, &at)
+        self.index.from(dest, at)
     }
 }
 

@@ -9,7 +9,6 @@ use crate::Account;
 use faim_base::{Aba, Endpoint, NoMemory};
 use indexmap::IndexMap;
 use std::alloc::Global;
-use std::hash::{BuildHasherDefault, DefaultHasher};
 
 // What is kept of an account beside its number: its endpoint, and its floor and running balance in cents.
 #[derive(Clone, Copy, Debug)]
@@ -19,15 +18,15 @@ pub(crate) struct Funds {
     pub(crate) balance: i128,
 }
 
-// The accounts by their numbers. The hash has no key of chance: a ledger must not ask for one.
-pub(crate) type Table = IndexMap<[u8; 9], Funds, BuildHasherDefault<DefaultHasher>>;
+// The accounts by their numbers, which whoever writes the configuration chooses: the default hash will do.
+pub(crate) type Table = IndexMap<[u8; 9], Funds>;
 
 // The accounts before any entry, each with its opening balance.
 pub(crate) fn open(alloc: Global, accounts: &[Account]) -> Result<Table, NoMemory>
     requires { IsDistinct bytes_eq (numbers_of accounts.now) }
     ensures { IfOk result (λ table. rows_in table.entries ≡ map opened accounts.now) }
 {
-    let mut table: Table = IndexMap::with_hasher(alloc, BuildHasherDefault::new());
+    let mut table: Table = IndexMap::new(alloc);
     for account in accounts {
         add_account(&mut table, account)?;
     }

@@ -147,7 +147,8 @@ impl Ledger {
     }
 }
 
-fn moves_money(head: &Head) -> bool
+/// Whether a message of this subtype moves money from its sender to its receiver.
+pub fn moves_money(head: &Head) -> bool
     ensures { result ≡ moves_money head.now }
 {
     matches!(head.sub, 0 | 2 | 8 | 32)
