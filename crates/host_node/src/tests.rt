@@ -3,6 +3,10 @@ ghost use Rattle.std.specs.Prelude.{IfOk};
 ghost use Rattle.host_ledger.specs.Soundness.{IsConfig};
 
 mod answers;
+mod cycles;
+mod payments;
+mod plain;
+mod searches;
 
 use crate::{retrieve, submit};
 use faim_base::{Aba, CycleDate, Endpoint, Imad, Moment, OutPos, Reject, Seq, Verdict};

@@ -2,11 +2,13 @@
 ghost use Rattle.std.specs.Prelude.{IfOk};
 ghost use Rattle.host_ledger.specs.Soundness.{IsConfig};
 
+use super::payments::{morning, roll};
+use super::{account, bank};
 use crate::{ack_payload, output_payload, submit, turned_payload};
-use faim_base::{Aba, CycleDate, Endpoint, Imad, Moment, Reject, Seq, Verdict};
+use faim_base::{CycleDate, Endpoint, Imad, Reject, Seq, Verdict};
 use faim_model::HostOutcome;
-use host_core::{HostState, RollCase};
-use host_ledger::{Account, Accounts, Config, Entry};
+use host_core::HostState;
+use host_ledger::{Accounts, Config, Entry};
 use std::alloc::Global;
 use std::test::Fail;
 
@@ -35,19 +37,6 @@ const CYCLE_END: &[u8] =
 const OTHER_TEXT: &[u8] =
     b"{1100}30T 3{1110}01020930FAIM{1130}X201IMAD IS KNOWN WITH OTHER TEXT*{1520}20240102BANKA001000001";
 
-fn bank(name: &[u8; 8]) -> Result<Endpoint, Fail> {
-    Ok(Endpoint::read(name).ok_or("an endpoint")?)
-}
-
-fn account(number: &[u8; 9], name: &[u8; 8], opening: i64) -> Result<Account, Fail> {
-    Ok(Account {
-        aba: Aba::read(number).ok_or("an account")?,
-        endpoint: bank(name)?,
-        opening,
-        floor: 0,
-    })
-}
-
 fn config(alloc: Global) -> Result<Config, Fail>
     ensures { IfOk result IsConfig }
 {
@@ -65,10 +54,6 @@ fn config(alloc: Global) -> Result<Config, Fail>
         return Err(Fail::from("a sound configuration"));
     }
     Ok(config)
-}
-
-fn morning() -> Result<Moment, Fail> {
-    Ok(Moment::new(12_625_050).ok_or("a moment")?)
 }
 
 // Submits a text on the first bank's line, which is recorded with a verdict.
@@ -153,16 +138,6 @@ fn entries_are_acknowledged_and_delivered(rt: HostRuntime) -> Result<(), Fail> {
     Ok(())
 }
 
-fn roll(state: &mut HostState, moment: Moment, date: CycleDate) -> Result<(), Fail> {
-    if state.effective(moment) != moment {
-        return Err(Fail::from("an entry that is later"));
-    }
-    match state.roll_case(date) {
-        RollCase::Later => Ok(state.push(Entry::Roll { moment, date })?),
-        RollCase::NotLater { .. } => Err(Fail::from("a later date")),
-    }
-}
-
 fn cycle_end(alloc: Global, state: &HostState, dest: Endpoint) -> Result<Vec<u8>, Fail> {
     let mut out = Vec::new(alloc);
     match state.position(dest, 1) {
@@ -177,11 +152,7 @@ fn the_end_of_a_cycle_is_delivered(rt: HostRuntime) -> Result<(), Fail> {
     let mut state = HostState::new(rt.alloc(), config(rt.alloc())?)?;
     let dest = bank(b"BANKB001")?;
     record(rt.alloc(), &mut state, PAYMENT, 1, taken()?)?;
-    roll(
-        &mut state,
-        morning()?,
-        CycleDate::new(8_768).ok_or("a date")?,
-    )?;
+    roll(&mut state, CycleDate::new(8_768).ok_or("a date")?)?;
     let end = cycle_end(rt.alloc(), &state, dest)?;
     assert_eq!(rt; end.as_slice(), CYCLE_END);
     Ok(())
