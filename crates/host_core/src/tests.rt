@@ -49,8 +49,15 @@ const NOBODY: [u8; 9] = *b"231380104";
 #[test]
 fn the_first_refusal_that_holds_is_given(rt: HostRuntime) -> Result<(), Fail> {
     let state = HostState::new(rt.alloc(), config(rt.alloc())?)?;
-    let strange = changed(&[Line(*b"BANKB001"), Day(8768)])?;
-    assert_eq!(rt; decided(&state, &strange, TEXT), Decision::WrongSource);
+    decides(
+        &state,
+        &[Line(*b"BANKB001"), Day(8768)],
+        Decision::WrongSource,
+    )?;
+    refuses_each(&state)
+}
+
+fn refuses_each(state: &HostState) -> Result<(), Fail> {
     let cases: [(&[Change], u8, u16); 9] = [
         (&[Day(8768), Edit(107)], b'H', 101),
         (&[Edit(107), Sender(NOBODY)], b'E', 107),
@@ -64,7 +71,7 @@ fn the_first_refusal_that_holds_is_given(rt: HostRuntime) -> Result<(), Fail> {
     ];
     for (changes, category, code) in cases {
         let want = Decision::New(Verdict::Refused(Reject { category, code }));
-        assert_eq!(rt; decided(&state, &changed(changes)?, TEXT), want);
+        decides(state, changes, want)?;
     }
     Ok(())
 }
@@ -72,6 +79,10 @@ fn the_first_refusal_that_holds_is_given(rt: HostRuntime) -> Result<(), Fail> {
 #[test]
 fn what_nothing_refuses_is_taken(rt: HostRuntime) -> Result<(), Fail> {
     let state = HostState::new(rt.alloc(), config(rt.alloc())?)?;
+    takes_each(&state)
+}
+
+fn takes_each(state: &HostState) -> Result<(), Fail> {
     let cases: [(&[Change], &[u8; 8]); 5] = [
         (&[], b"BANKB001"),
         (&[Receiver(PAYER)], b"BANKA001"),
@@ -84,7 +95,7 @@ fn what_nothing_refuses_is_taken(rt: HostRuntime) -> Result<(), Fail> {
             dest: bank(name)?,
             seq: number(1)?,
         });
-        assert_eq!(rt; decided(&state, &changed(changes)?, TEXT), want);
+        decides(state, changes, want)?;
     }
     Ok(())
 }
@@ -117,15 +128,16 @@ fn a_posted_payment_stands(rt: HostRuntime) -> Result<(), Fail> {
 #[test]
 fn a_posted_payment_moves_money(rt: HostRuntime) -> Result<(), Fail> {
     let (mut state, entry) = opened(rt.alloc())?;
-    assert_eq!(rt; state.balance(&account(&PAYER)?), Some(1_000_000));
+    has_balances(&state, 1_000_000, 0)?;
     state.push(entry)?;
-    let cases = [
-        (PAYER, Some(850_000)),
-        (PAYEE, Some(150_000)),
-        (NOBODY, None),
-    ];
-    for (holder, cents) in cases {
-        assert_eq!(rt; state.balance(&account(&holder)?), cents);
+    has_balances(&state, 850_000, 150_000)
+}
+
+fn has_balances(state: &HostState, payer: i128, payee: i128) -> Result<(), Fail> {
+    for (holder, cents) in [(PAYER, Some(payer)), (PAYEE, Some(payee)), (NOBODY, None)] {
+        if state.balance(&account(&holder)?) != cents {
+            return Err(Fail::from("another balance"));
+        }
     }
     Ok(())
 }
@@ -136,16 +148,17 @@ fn a_posted_payment_is_given_to_its_receiver(rt: HostRuntime) -> Result<(), Fail
     state.push(entry)?;
     assert_eq!(rt; state.outputs(bank(b"BANKA001")?), 0);
     assert_eq!(rt; state.outputs(bank(b"BANKB001")?), 1);
-    for (from, count) in [
-        (b"20240102000001", 1),
-        (b"20240102000002", 0),
-        (b"20240101999999", 1),
-    ] {
-        let at = OutPos::read(from).ok_or("a position")?;
-        assert_eq!(rt;
-            state.retrieve(bank(b"BANKB001")?, at)?.as_slice().len(),
-            count
-        );
+    gives(&state, b"BANKB001", b"20240102000001", &[0])?;
+    gives(&state, b"BANKB001", b"20240102000002", &[])?;
+    gives(&state, b"BANKB001", b"20240101999999", &[0])
+}
+
+// A retrieval of an endpoint from a position on gives these places.
+fn gives(state: &HostState, name: &[u8; 8], from: &[u8; 14], places: &[usize]) -> Result<(), Fail> {
+    let at = OutPos::read(from).ok_or("a position")?;
+    let found = state.retrieve(bank(name)?, at)?;
+    if found.as_slice() != places {
+        return Err(Fail::from("other places"));
     }
     Ok(())
 }
@@ -172,7 +185,11 @@ fn a_roll_ends_the_cycle_of_each_endpoint(rt: HostRuntime) -> Result<(), Fail> {
     state.push(entry)?;
     roll(&mut state, moment(12_625_919)?, date(8768)?)?;
     assert_eq!(rt; state.len(), 2);
-    assert_eq!(rt; state.balance(&account(&PAYER)?), Some(850_000));
+    has_balances(&state, 850_000, 150_000)?;
+    gives_ends(&state)
+}
+
+fn gives_ends(state: &HostState) -> Result<(), Fail> {
     let cases: [(&[u8; 8], &[u8; 14], &[usize]); 7] = [
         (b"BANKA001", b"20240102000001", &[1]),
         (b"BANKA001", b"20240102000002", &[]),
@@ -183,9 +200,7 @@ fn a_roll_ends_the_cycle_of_each_endpoint(rt: HostRuntime) -> Result<(), Fail> {
         (b"NOBANK01", b"20240102000001", &[]),
     ];
     for (name, from, places) in cases {
-        let at = OutPos::read(from).ok_or("a position")?;
-        let found = state.retrieve(bank(name)?, at)?;
-        assert!(rt; found.as_slice() == places);
+        gives(state, name, from, places)?;
     }
     Ok(())
 }
@@ -195,6 +210,10 @@ fn an_entry_gives_its_position(rt: HostRuntime) -> Result<(), Fail> {
     let (mut state, entry) = opened(rt.alloc())?;
     state.push(entry)?;
     roll(&mut state, moment(12_625_919)?, date(8768)?)?;
+    has_positions(&state)
+}
+
+fn has_positions(state: &HostState) -> Result<(), Fail> {
     let cases: [(&[u8; 8], usize, Option<u32>); 7] = [
         (b"BANKA001", 0, None),
         (b"BANKA001", 1, Some(1)),
@@ -205,17 +224,20 @@ fn an_entry_gives_its_position(rt: HostRuntime) -> Result<(), Fail> {
         (b"NOBANK01", 1, None),
     ];
     for (name, place, want) in cases {
-        match state.position(bank(name)?, place) {
-            Some(at) => {
-                assert_eq!(rt; Some(at.seq.get()), want);
-                assert_eq!(rt; at.date.get(), 8767);
-            }
-            None => {
-                assert!(rt; want.is_none());
-            }
+        if number_at(state, bank(name)?, place)? != want {
+            return Err(Fail::from("another position"));
         }
     }
     Ok(())
+}
+
+// The number of what the entry at a place gives the endpoint under the opening date.
+fn number_at(state: &HostState, dest: Endpoint, place: usize) -> Result<Option<u32>, Fail> {
+    match state.position(dest, place) {
+        Some(at) if at.date.get() == 8767 => Ok(Some(at.seq.get())),
+        Some(_) => Err(Fail::from("the opening date")),
+        None => Ok(None),
+    }
 }
 
 #[test]
@@ -223,6 +245,10 @@ fn a_new_cycle_numbers_from_one(rt: HostRuntime) -> Result<(), Fail> {
     let (mut state, entry) = opened(rt.alloc())?;
     state.push(entry)?;
     roll(&mut state, moment(12_625_919)?, date(8768)?)?;
+    decides_anew(&state)
+}
+
+fn decides_anew(state: &HostState) -> Result<(), Fail> {
     let late = Decision::New(Verdict::Refused(Reject {
         category: b'H',
         code: 101,
@@ -231,18 +257,13 @@ fn a_new_cycle_numbers_from_one(rt: HostRuntime) -> Result<(), Fail> {
         dest: bank(b"BANKA001")?,
         seq: number(1)?,
     });
-    let cases: [(&[Change], Decision); 3] = [
-        (&[], Decision::Known(0)),
-        (&[Day(8769)], late),
-        (
-            &[Day(8768), Receiver(PAYER), Subtype(31), Minute(1440)],
-            first,
-        ),
-    ];
-    for (changes, want) in cases {
-        assert_eq!(rt; decided(&state, &changed(changes)?, TEXT), want);
-    }
-    Ok(())
+    decides(state, &[], Decision::Known(0))?;
+    decides(state, &[Day(8769)], late)?;
+    decides(
+        state,
+        &[Day(8768), Receiver(PAYER), Subtype(31), Minute(1440)],
+        first,
+    )
 }
 
 // The host goes on to a date, where it may.
@@ -254,6 +275,15 @@ fn roll(state: &mut HostState, moment: Moment, date: CycleDate) -> Result<(), Fa
         RollCase::Later => Ok(state.push(Entry::Roll { moment, date })?),
         RollCase::NotLater { .. } => Err(Fail::from("a later date")),
     }
+}
+
+// The decision on the payment with these changes is this one.
+fn decides(state: &HostState, changes: &[Change], want: Decision) -> Result<(), Fail> {
+    let case = changed(changes)?;
+    if decided(state, &case, TEXT) != want {
+        return Err(Fail::from("another decision"));
+    }
+    Ok(())
 }
 
 // What the host decides on a case of this text.
