@@ -1,11 +1,13 @@
 // A run between a reader and a writer.
-ghost use Rattle.std.specs.Prelude.{◌≡◌, ◌↔◌, IsNone, IfSome, IfOk};
+ghost use Rattle.std.specs.Prelude.{◌≡◌, ◌↔◌, Some, IsNone, IfSome, IfOk};
 ghost use Rattle.std.specs.Io.KnownBytes.{Keeps};
+ghost use Rattle.faim_top.specs.declared.command.Command.{Command};
 ghost use Rattle.faim_top.specs.declared.status.Status.TheVariants as statuses;
 ghost use Rattle.faim_top.specs.Words.{command_of, texts};
 ghost use Rattle.faim_top.specs.Grammar.{script_of};
 ghost use Rattle.faim_top.specs.Seen.{LosesAtMost, seen};
 ghost use Rattle.faim_top.specs.Ends.{Ended, most_read};
+ghost use Rattle.faim_top.specs.Sources.{TakesLittleBeyond};
 ghost use Rattle.faim_top.specs.Promises.{KeepsPromises};
 
 use crate::adapters::{StdSink, StdSource};
@@ -33,6 +35,7 @@ pub fn run_between<R: Read, W: Write>(
     ensures ended { IfSome (command_of (texts words.now)) (λ command.
         Ended command result.status (record { left = seen R.remaining reader result.reader; written = seen W.contents writer result.writer })) }
     ensures few { IfSome (command_of (texts words.now)) (λ command. LosesAtMost (most_read command) (seen R.remaining reader result.reader)) }
+    ensures stops { command_of (texts words.now) ≡ Some Command.Check → TakesLittleBeyond (seen R.remaining reader result.reader) }
     ensures promises { result.status ≡ statuses.Done → IfSome (R.remaining reader) (λ text. IfOk (script_of text) KeepsPromises) }
 {
     let mut input = StdSource::new(reader);

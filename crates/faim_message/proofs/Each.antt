@@ -16,7 +16,7 @@ byte_after [] rest b = refl
 byte_after (f ∷ front) rest b = byte_after front rest b
 
 -- reading that doesn't come to the end breaks somewhere
-barred_after : (form : Form) (front rest : List ℕ) (s : Stage) → reads form start front ≡ Some s → reads form s rest ≡ None → (p : ℕ) × BarredAt form (front ++ rest) p
+pub barred_after : (form : Form) (front rest : List ℕ) (s : Stage) → reads form start front ≡ Some s → reads form s rest ≡ None → (p : ℕ) × BarredAt form (front ++ rest) p
 barred_after form front [] s run none = absurd (let wrong : Some s ≡ None = none in cc)
 barred_after form front (b ∷ rest) s run none = go (next form s b) (λ t. barred_after form (front ++ b ∷ []) rest t) refl
   where

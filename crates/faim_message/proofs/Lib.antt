@@ -7,7 +7,6 @@ pub mod Judge
 pub mod Decodings
 pub mod Reasons
 pub mod Each
-pub mod Across
 mod Examples
 mod EditExamples
 pub mod Duplication
@@ -20,3 +19,6 @@ pub mod BodyTexts
 pub mod Submissions
 pub mod HeadRanges
 pub mod Left
+pub mod RemainingLemmas
+pub mod PartialLemmas
+pub mod CutLemmas

@@ -6,3 +6,6 @@ pub mod Decoded
 pub mod Heads
 pub mod Numbering
 pub mod Edits
+pub mod Partial
+pub mod Cutting
+pub mod Rising

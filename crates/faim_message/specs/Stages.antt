@@ -1,8 +1,7 @@
--- What may come next in a message, byte by byte: it serves the law `reading_tells_what_begins` alone.
-use Rattle.std.specs.Prelude.{◌≡◌, ℕ, ◌+◌, ◌<◌, ◌≤◌, ◌==◌, ◌&&◌, not, Bool, true, false, List, [], ◌∷◌, ◌++◌, length, take, drop, slice_index, Option, Some, None, Result, Ok, Err, if◌then◌else◌}
+-- What may come next in a message, byte by byte: the law `reading_tells_what_begins` pins it to what begins a message.
+use Rattle.std.specs.Prelude.{◌≡◌, ℕ, ◌<◌, ◌==◌, not, Bool, true, false, List, [], ◌∷◌, ◌++◌, length, take, slice_index, Option, Some, None, if◌then◌else◌}
 use Rattle.faim_base.specs.declared.judgement.Refused.{Refused}
 use Rattle.faim_base.specs.declared.judgement.Refused.TheVariants.{Byte, Cut, Missing, NoMemory}
-use Rattle.faim_tags.specs.Reading.{is_past}
 use Rattle.faim_tags.specs.Spelling.{Tag, spelling, is_empty}
 use Rattle.faim_tags.specs.Steps.{Progress, InNumber, Inside, step, may_end, tag_of, read_so_far}
 use Rattle.faim_message.specs.declared.form.Form.{Form}
@@ -125,36 +124,12 @@ pub record Ends (form : Form) (bytes : List ℕ) (tags : List Tag) (breaks : Bre
   pub tags_are : tags_of stage ≡ tags
   pub breaks_are : breaks_of stage ≡ breaks
 
--- a whole tag ends at a place, and no byte goes on with it
-pub record OverAt (form : Form) (bytes : List ℕ) (place : ℕ) (so_far : BreakSoFar) (tags : List Tag) : Type 0 where
-  pub within : place ≤ length bytes
-  pub before : List Tag
-  pub part : Progress
-  pub run : reads form start (take place bytes) ≡ Some (Within before so_far part)
-  pub may : may_end part ≡ true
-  pub tags_are : before ++ tag_of part ∷ [] ≡ tags
-  pub past : is_past (drop place bytes) ≡ true
-
--- from a place on the next tag is read
-pub record Starts (form : Form) (bytes : List ℕ) (place : ℕ) (so_far : BreakSoFar) (tags : List Tag) : Type 0 where
-  pub within : place ≤ length bytes
-  pub stage : Stage
-  pub run : reads form start (take place bytes) ≡ Some stage
-  pub whole : is_whole stage ≡ not (is_empty tags)
-  pub over : length bytes ≤ place → (tags_of stage ≡ tags) × (breaks_of stage ≡ breaks_with so_far true)
-  pub same : place < length bytes → (more : List ℕ) → reads form stage (slice_index bytes place ∷ more) ≡ reads form (Within tags so_far (InNumber [])) (slice_index bytes place ∷ more)
-
 -- why reading ended before it was through
 abbrev pub Fails : Form → List ℕ → Refused → Type 0
 Fails form bytes (Byte p) = BarredAt form bytes p
 Fails form bytes Cut = Halts form bytes
 Fails form bytes (Missing n) = ⊥
 Fails form bytes NoMemory = Unit {0}
-
--- the LF after a CR, which stands at a place, and where the break ends
-abbrev pub feed_from : List ℕ → ℕ → Result (BreakSoFar × ℕ) Refused
-feed_from [] place = Err Cut
-feed_from (b ∷ rest) place = if b == 10 then Ok (ReturnFeed, place + 1) else Err (Byte place)
 
 -- the next tag may stand right after a tag
 abbrev pub takes_brace : BreakSoFar → Bool
@@ -173,11 +148,3 @@ abbrev pub takes_return : BreakSoFar → Bool
 takes_return Unknown = true
 takes_return ReturnFeed = true
 takes_return so_far = false
-
--- the break that stands at a place, and where it ends
-abbrev pub break_from : BreakSoFar → List ℕ → ℕ → Result (BreakSoFar × ℕ) Refused
-break_from so_far [] place = Err Cut
-break_from so_far (b ∷ rest) place =
-    if b == 123 && takes_brace so_far then Ok (Bare, place)
-    else (if b == 10 && takes_feed so_far then Ok (Feed, place + 1)
-    else (if b == 13 && takes_return so_far then feed_from rest (place + 1) else Err (Byte place)))

@@ -1,6 +1,8 @@
 // Which numbers the tags of a form may have, and which it must have.
 ghost use Rattle.std.specs.Prelude.{◌≡◌, ◌==◌, filter, ◌+◌, ◌<◌, ◌≤◌, ◌++◌, ◌∷◌, [], ℕ, List, drop, length, true, false, not, Some, None, IfOk};
 ghost use Rattle.std.specs.List.{find, list_all, list_any};
+ghost use Rattle.faim_base.specs.Tags.{is_tag_number};
+ghost use Rattle.faim_tags.specs.Spelling.{Tag, is_empty};
 ghost use Rattle.faim_tags.specs.Reading.{is_among};
 ghost use Rattle.faim_message.specs.Forms.{first_of, mandatory, permitted, without};
 ghost use Rattle.faim_message.specs.Spelling.{numbers};
@@ -9,9 +11,7 @@ ghost use Rattle.faim_message.specs.Stages.{open_numbers};
 
 use crate::Form;
 use crate::message::tag_with;
-use faim_base::NoMemory;
 use faim_tags::TagValue;
-use std::alloc::Global;
 
 static PERMITTED_IN_INPUT: [u16; 30] = [
     1500, 1510, 1520, 2000, 3100, 3320, 3400, 3500, 3600, 4000, 4100, 4200, 4320, 4400, 5000, 5100,
@@ -40,8 +40,10 @@ static MANDATORY_IN_OUTPUT: [u16; 3] = [1100, 1110, 1120];
 static MANDATORY_IN_ACK: [u16; 2] = [1100, 1110];
 
 #[tactic(auto, unfolding(crate::specs::Forms::permitted))]
-fn permitted(form: Form) -> &'static [u16]
-    ensures { result.now ≡ permitted form }
+// The numbers that the form permits.
+pub(crate) fn permitted(form: Form) -> &'static [u16]
+    ensures value { result.now ≡ permitted form }
+    ensures few { length result.now ≤ 33 }
 {
     match form {
         Form::Input => &PERMITTED_IN_INPUT,
@@ -69,42 +71,24 @@ fn has(tags: &[TagValue], number: u16) -> bool
     tag_with(tags, number).is_some()
 }
 
-// The numbers that the form permits.
-pub(crate) fn permitted_numbers(alloc: Global, form: Form) -> Result<Vec<u16>, NoMemory>
-    ensures { IfOk result (λ left. left.items ≡ permitted form) }
+// The numbers that the next tag may have, where a tag is there or none: the form's first, or those that are left.
+pub(crate) fn open_numbers(form: Form, any: bool, left: &[u16]) -> &[u16]
+    requires { list_all is_tag_number left.now ≡ true }
+    ensures open { (tags : List Tag) → any ≡ not (is_empty tags) → left.now ≡ without (numbers tags) (permitted form) → result.now ≡ open_numbers form tags }
+    ensures listed { list_all is_tag_number result.now ≡ true }
 {
-    let mut left = Vec::new(alloc);
-    left.extend_from_slice(permitted(form))?;
-    Ok(left)
-}
-
-// The numbers that the next tag may have: the form's first, and after it those that are left.
-pub(crate) fn open_numbers<'a>(form: Form, tags: &[TagValue], left: &'a [u16]) -> &'a [u16]
-    requires { left.now ≡ without (numbers tags.now) (permitted form) }
-    ensures { result.now ≡ open_numbers form tags.now }
-{
-    if tags.is_empty() {
-        first_number(form)
-    } else {
-        left
-    }
+    if any { left } else { first_number(form) }
 }
 
 // The number that the first tag has.
 fn first_number(form: Form) -> &'static [u16]
-    ensures { result.now ≡ first_of form ∷ [] }
+    ensures value { result.now ≡ first_of form ∷ [] }
+    ensures listed { list_all is_tag_number result.now ≡ true }
 {
     match form {
         Form::Input | Form::Draft => &[1500],
         Form::Output | Form::Ack => &[1100],
     }
-}
-
-// Takes a number away from those that are left.
-pub(crate) fn take_away(left: &mut Vec<u16>, number: u16)
-    ensures { left.new.items ≡ filter (λ n. not (n == number)) left.old.items }
-{
-    left.retain(|n| *n != number);
 }
 
 // The least mandatory number that no tag has.

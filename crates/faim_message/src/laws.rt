@@ -1,5 +1,5 @@
 // Laws of the texts of messages. Each call does nothing: its contract is the law.
-ghost use Rattle.std.specs.Prelude.{◌≡◌, ◌≢◌, ◌⊎◌, ◌<◌, ◌≤◌, ◌↔◌, ℕ, List, length, true, Some, None, Ok, is_some, slice_index, slice_set, IsTrue};
+ghost use Rattle.std.specs.Prelude.{◌≡◌, ◌≢◌, ◌⊎◌, ◌<◌, ◌≤◌, ◌↔◌, ℕ, List, ◌++◌, length, true, Some, None, Ok, is_some, slice_index, slice_set, IsTrue};
 ghost use Rattle.std.specs.List.{list_all};
 ghost use Rattle.faim_base.specs.Limits.{longest_message};
 ghost use Rattle.faim_base.specs.Numbers.{IsAmount, IsType};
@@ -9,10 +9,12 @@ ghost use Rattle.faim_base.specs.declared.judgement.Head.{Head};
 ghost use Rattle.faim_base.specs.declared.judgement.Refused.{Refused};
 ghost use Rattle.faim_message.specs.declared.form.Form.{Form};
 ghost use Rattle.faim_message.specs.Spelling.{Content, IsMessage, Spells, message_spelling, mark_byte, mark_in, marked_with, body_text};
-ghost use Rattle.faim_message.specs.Refusal.{Begins, Refuses};
+ghost use Rattle.faim_message.specs.Refusal.{Begins, StopsAt, Refuses};
 ghost use Rattle.faim_message.specs.Decoded.{decoded};
 ghost use Rattle.faim_message.specs.Heads.{head_of};
 ghost use Rattle.faim_message.specs.Stages.{reads, start};
+ghost use Rattle.faim_message.specs.Partial.{HasRead};
+ghost use Rattle.faim_message.specs.declared.partial.MessagePart.{MessagePart};
 
 /// Of one form, one message has one spelling, and one spelling has one message.
 pub fn one_spelling_of_messages()
@@ -34,6 +36,20 @@ pub fn spelled_is_not_refused()
 /// No spelling of a message has more bytes than `LONGEST_MESSAGE` says (docs/FORMATS.md, "Messages").
 pub fn spellings_are_short()
     ensures { (m : Content) (bytes : List ℕ) → Spells m bytes → length bytes ≤ longest_message }
+{}
+
+/// What a `MessagePart` has read begins a message of its form, and has no more bytes than `LONGEST_MESSAGE` says.
+pub fn what_is_read_begins_a_message()
+    ensures begins { (m : MessagePart) (form : Form) (bytes : List ℕ) → HasRead m form bytes → Begins form bytes }
+    ensures short { (m : MessagePart) (form : Form) (bytes : List ℕ) → HasRead m form bytes → length bytes ≤ longest_message }
+    ensures on { (m : MessagePart) (form : Form) (bytes : List ℕ) (p : ℕ) → HasRead m form bytes → StopsAt form bytes p → ⊥ }
+{}
+
+/// Where bytes stop beginning a message is one place, and it stays the place whatever comes after them.
+pub fn a_stop_stays()
+    ensures one { (form : Form) (bytes : List ℕ) (p q : ℕ) → StopsAt form bytes p → StopsAt form bytes q → p ≡ q }
+    ensures stays { (form : Form) (bytes more : List ℕ) (p : ℕ) → StopsAt form bytes p → StopsAt form (bytes ++ more) p }
+    ensures front { (form : Form) (bytes more : List ℕ) (p : ℕ) → StopsAt form (bytes ++ more) p → p < length bytes → StopsAt form bytes p }
 {}
 
 /// The mark of a message, which is its duplication code, is one byte of its text: byte 17, counted from 0, of a submission

@@ -90,7 +90,7 @@ added_follows c es line reading text x adds =
     let in_time : last_moment es ≤ effective es reading = omega arith in
     turn_follows_by c es line (effective es reading) text (submission c.env text) x in_time refl adds
 
-lawful_with : (c : Config) (es : List Entry) (adds : Option Entry) → ((x : Entry) → adds ≡ Some x → Follows c es x) → Lawful c es
+pub lawful_with : (c : Config) (es : List Entry) (adds : Option Entry) → ((x : Entry) → adds ≡ Some x → Follows c es x) → Lawful c es
     → Lawful c (adds_to adds es)
 lawful_with c es None follows lawful = lawful
 lawful_with c es (Some x) follows lawful = (follows x refl, lawful)

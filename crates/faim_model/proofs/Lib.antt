@@ -36,5 +36,17 @@ pub mod Positions
 pub mod SamePlace
 pub mod HandedOn
 pub mod SameOutput
+pub mod Drawn
+pub mod SendingLemmas
+pub mod Served
+pub mod Asked
+pub mod StepCases
+pub mod Exact
+pub mod Stepping
+pub mod Outcomes
+pub mod Landings
+pub mod SessionLemmas
+pub mod FirstOutputs
 mod Examples
 mod FrameExamples
+mod StepExamples

@@ -10,3 +10,8 @@ pub mod Frames
 pub mod Readings
 pub mod Items
 pub mod Payloads
+pub mod Sending
+pub mod Requests
+pub mod Steps
+pub mod Landing
+pub mod Sessions

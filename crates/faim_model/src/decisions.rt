@@ -1,5 +1,5 @@
 // What a host decides on a message, and what it answers to its line.
-use faim_base::{Imad, Reject, Verdict};
+use faim_base::{CycleDate, Imad, Reject, Verdict};
 
 /// What a host does with a message: a new verdict to record; the place, from 0, of the entry that has its identifier
 /// and its text, whose verdict stands; the place of the entry that has its identifier with another text; or another
@@ -23,4 +23,11 @@ pub enum HostOutcome {
     TurnedAway(Reject),
     /// So many outputs were given again.
     Retrieved(u32),
+    /// A new cycle began, of this date.
+    Rolled(CycleDate),
+    /// A Roll to no later date than that of the present cycle, which goes on.
+    NotLater { current: CycleDate },
+    /// A frame that a host doesn't take: of another kind, from another endpoint, or with another payload than its kind asks
+    /// for.
+    Strange,
 }

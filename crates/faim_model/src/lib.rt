@@ -4,6 +4,7 @@
 mod decisions;
 mod frame_laws;
 mod laws;
+mod step_laws;
 
 pub use decisions::{Decision, HostOutcome};
 pub use frame_laws::{
@@ -19,4 +20,10 @@ pub use laws::{
     outputs_stand_at_their_places, posted_messages_are_sound, posted_once, refusals_tell_why,
     retrieved_up_to_sixty_four, rolls_end_cycles, turn_follows, turns_stay_lawful,
     turns_tell_verdicts, verdict_stands, within_floor,
+};
+pub use step_laws::{
+    entries_have_their_frames, frames_differ_in_their_marks, frames_go_where_they_belong,
+    requests_settle_steps, restarts_send_again, sent_frames_are_covered, sessions_join,
+    sessions_miss_and_repeat_nothing, sessions_stay_sound, steps_land_soundly, steps_stay_lawful,
+    steps_tell_their_outcomes,
 };

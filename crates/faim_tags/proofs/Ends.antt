@@ -269,7 +269,7 @@ number_run ns n l e = let a = digit (n / 1000) in let b = digit (n / 100 % 10) i
     ∙ step-one ns (InNumber (123 ∷ a ∷ b ∷ c ∷ d ∷ [])) (Inside n [] [] []) 125 [] (at_number ns n (braced n) [] e refl ∙ ap (λ (m : ℕ). Some (Inside m [] [] [])) (number_back n l))
 
 fixed_run : (ns : List ℕ) (v : Tag) → IsTag v → steps ns (Inside v.no [] [] []) v.fixed ≡ Some (Inside v.no v.fixed [] [])
-fixed_run ns v h = let r = fill-run (classes v.no) v.fixed h.filled in steps-fixed ns v.no [] (classes v.no) v.fixed refl r.0
+fixed_run ns v h = let r = fill-run (classes v.no) v.fixed h.filled in steps-fixed ns v.no [] (classes v.no) v.fixed [] [] refl r.0
 
 pub front_run : (ns : List ℕ) (v : Tag) (more : List ℕ) → IsTag v → is_among ns v.no ≡ true → steps ns (InNumber []) (braced v.no ++ v.fixed ++ more) ≡ steps ns (Inside v.no v.fixed [] []) more
 front_run ns v more h e =

@@ -73,14 +73,3 @@ starts_with-split (p ∷ front) (b ∷ bytes) e =
 pub starts_with-front : (front rest : List ℕ) → starts_with nat_eq (front ++ rest) front ≡ true
 starts_with-front [] rest = refl
 starts_with-front (p ∷ front) rest = and_from (eqb p p) (starts_with nat_eq (front ++ rest) front) (eq-eqb p p refl) (starts_with-front front rest)
-
-abbrev has_few : ℕ → Bool
-has_few n = ltb (length (row_of n).elements) 100
-
-all_have_few : list_all has_few tag_numbers ≡ true
-unfolding row_of
-all_have_few = refl
-
--- a tag has few fixed elements
-pub few_elements : (n : ℕ) → is_tag_number n ≡ true → length (row_of n).elements < 100
-few_elements n e = ltb-true (length (row_of n).elements) 100 (among_all has_few tag_numbers n all_have_few e)

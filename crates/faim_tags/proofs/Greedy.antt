@@ -52,7 +52,7 @@ text_length-stop m bytes lt lb =
     let P : ℕ → Type 0 = λ c. is_of_class c (get_or bytes (text_length m bytes) 0) ≡ false in
     subst P e s
 
-star_inside : (xs : List ℕ) (k : ℕ) → eqb (get_or xs k 0) 42 ≡ true → k < length xs
+pub star_inside : (xs : List ℕ) (k : ℕ) → eqb (get_or xs k 0) 42 ≡ true → k < length xs
 star_inside xs k e =
     elim (cases_lt k (length xs)) [
       | inl lt ↦ lt
@@ -124,13 +124,13 @@ stuck_fixed ns n bytes lt =
     let len : length (take k bytes) ≡ k = length-take-le k bytes le in
     record {
       within = le;
-      run = steps-fixed ns n [] (classes n) (take k bytes) refl (run_length-take (classes n) bytes ∙ sym len);
+      run = steps-fixed ns n [] (classes n) (take k bytes) [] [] refl (run_length-take (classes n) bytes ∙ sym len);
       none = λ lb.
           let wrong : is_of_class (get_or (classes n) (length (take k bytes)) 0) (get_or bytes k 0) ≡ false = rw len (run_length-stop (classes n) bytes lt lb) in
           rw (lt-ltb (length (take k bytes)) (length (classes n)) (omega arith), wrong) refl;
     }
 
-no_step : (ns : List ℕ) (n : ℕ) (fixed : List ℕ) (stars : List (List ℕ)) (part : List ℕ) (b : ℕ) → length (classes n) ≤ length fixed → (length stars < length (maxima n) → eqb b 42 ≡ false) → (length part < get_or (maxima n) (length stars) 0 → is_text_byte b ≡ false) → step ns (Inside n fixed stars part) b ≡ None
+pub no_step : (ns : List ℕ) (n : ℕ) (fixed : List ℕ) (stars : List (List ℕ)) (part : List ℕ) (b : ℕ) → length (classes n) ≤ length fixed → (length stars < length (maxima n) → eqb b 42 ≡ false) → (length part < get_or (maxima n) (length stars) 0 → is_text_byte b ≡ false) → step ns (Inside n fixed stars part) b ≡ None
 no_step ns n fixed stars part b le star text =
     rw (le-ltb (length fixed) (length (classes n)) le)
     (nothing (eqb b 42) (ltb (length stars) (length (maxima n))) (is_text_byte b) (ltb (length part) (get_or (maxima n) (length stars) 0)) (Inside n fixed (stars ++ part ∷ []) []) (Inside n fixed stars (part ++ b ∷ []))
@@ -182,7 +182,7 @@ stuck_stars ns n bytes whole stars is k k_is =
     record {
       within = omega (arith, all);
       run = ap (steps ns (Inside n [] [] [])) taken
-          ∙ steps-then ns (Inside n [] [] []) (Inside n (take f bytes) [] []) (take f bytes) (s ++ take k rest) (steps-fixed ns n [] (classes n) (take f bytes) refl (runs ∙ sym flen))
+          ∙ steps-then ns (Inside n [] [] []) (Inside n (take f bytes) [] []) (take f bytes) (s ++ take k rest) (steps-fixed ns n [] (classes n) (take f bytes) [] [] refl (runs ∙ sym flen))
           ∙ steps-stars ns n (take f bytes) [] stars (maxima n) (take k rest) (omega arith) refl front.each
           ∙ steps-text ns n (take f bytes) stars [] (take k rest) (omega arith) texts (omega arith);
       none = λ lt.
@@ -218,19 +218,10 @@ closed_on maxima bytes stars k place count lt le is star taken =
     )
 
 -- the same, told of the parts as they are read
-pub stuck_last : (ns : List ℕ) (n : ℕ) (bytes : List ℕ) (fixed : ℕ) (stars : List (List ℕ)) (taken k : ℕ) (rest part : List ℕ) → fixed ≡ length (classes n) → run_length (classes n) bytes ≡ length (classes n) → stars ≡ closed_stars (maxima n) (drop fixed bytes) → taken ≡ length (starred stars true) → rest ≡ drop taken (drop fixed bytes) → k ≡ text_length (get_or (maxima n) (length stars) 0) rest → part ≡ take k rest → Stuck ns (Inside n [] [] []) bytes (fixed + taken + length part) (Inside n (take fixed bytes) stars part)
-stuck_last ns n bytes fixed stars taken k rest part f filled s t r c p =
-    let m = get_or (maxima n) (length stars) 0 in
+pub stuck_last : (ns : List ℕ) (n : ℕ) (bytes : List ℕ) (fixed : ℕ) (stars : List (List ℕ)) (taken k : ℕ) → fixed ≡ length (classes n) → run_length (classes n) bytes ≡ length (classes n) → stars ≡ closed_stars (maxima n) (drop fixed bytes) → taken ≡ length (starred stars true) → k ≡ text_length (get_or (maxima n) (length stars) 0) (drop taken (drop fixed bytes)) → Stuck ns (Inside n [] [] []) bytes (fixed + taken + k) (Inside n (take fixed bytes) stars (take k (drop taken (drop fixed bytes))))
+stuck_last ns n bytes fixed stars taken k f filled s t c =
     let l = length (classes n) in
     let w = length (starred stars true) in
-    let here : rest ≡ drop w (drop l bytes) = r ∙ ap (λ (j : ℕ). drop j (drop fixed bytes)) t ∙ ap (λ (j : ℕ). drop w (drop j bytes)) f in
-    let s_is : stars ≡ closed_stars (maxima n) (drop l bytes) = s ∙ ap (λ (j : ℕ). closed_stars (maxima n) (drop j bytes)) f in
-    let k_is : k ≡ text_length m (drop w (drop l bytes)) = c ∙ ap (text_length m) here in
-    let p_is : part ≡ take k (drop w (drop l bytes)) = p ∙ ap (take k) here in
-    let len : length part ≡ k = ap length p ∙ length-take-le k rest (omega (arith, (text_length-short m rest).1)) in
-    let at : fixed + taken + length part ≡ l + w + k = omega arith in
-    let one = stuck_stars ns n bytes filled stars s_is k k_is in
-    let P : ℕ → Type 0 = λ j. Stuck ns (Inside n [] [] []) bytes j (Inside n (take l bytes) stars (take k (drop w (drop l bytes)))) in
-    let Q : List ℕ → Type 0 = λ x. Stuck ns (Inside n [] [] []) bytes (fixed + taken + length part) (Inside n (take l bytes) stars x) in
-    let R : ℕ → Type 0 = λ j. Stuck ns (Inside n [] [] []) bytes (fixed + taken + length part) (Inside n (take j bytes) stars part) in
-    subst R (sym f) (subst Q (sym p_is) (subst P (sym at) one))
+    let P : ℕ → Type 0 = λ i. stars ≡ closed_stars (maxima n) (drop i bytes) → k ≡ text_length (get_or (maxima n) (length stars) 0) (drop w (drop i bytes)) → Stuck ns (Inside n [] [] []) bytes (i + w + k) (Inside n (take i bytes) stars (take k (drop w (drop i bytes)))) in
+    let Q : ℕ → Type 0 = λ j. k ≡ text_length (get_or (maxima n) (length stars) 0) (drop j (drop fixed bytes)) → Stuck ns (Inside n [] [] []) bytes (fixed + j + k) (Inside n (take fixed bytes) stars (take k (drop j (drop fixed bytes)))) in
+    subst Q (sym t) (subst P (sym f) (λ s_is k_is. stuck_stars ns n bytes filled stars s_is k k_is) s) c

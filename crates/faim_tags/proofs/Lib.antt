@@ -9,3 +9,6 @@ pub mod NumberLemmas
 pub mod Meaning
 pub mod Built
 pub mod Judgements
+pub mod PartialLemmas
+pub mod RunLemmas
+pub mod CutLemmas

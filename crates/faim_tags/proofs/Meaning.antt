@@ -3,7 +3,7 @@ use Rattle.std.proofs.Common.{◌≡◌, ℕ, ◌+◌, ◌<◌, ◌≤◌, Bool,
 use Rattle.std.specs.Prelude.{is_some}
 use Rattle.std.specs.List.{list_all, list_any}
 use Rattle.std.proofs.lemmas.Bool.{cases_lt, and_parts, or_left, or_right, eq-eqb, not-true, both_ways}
-use Rattle.std.proofs.lemmas.List.{drop_more, drop_all, take_all, take-take, take_more, take-append-drop, drop-take, length-drop, drop-drop, get_or-drop}
+use Rattle.std.proofs.lemmas.List.{drop_more, drop_all, take_all, take-take, take_more, take-append-drop}
 use Rattle.faim_base.specs.Tags.{is_tag_number, tag_numbers}
 use Rattle.faim_base.specs.Text.{is_text_byte}
 use Rattle.faim_base.specs.declared.judgement.Refused.{Refused}
@@ -77,7 +77,7 @@ end-goes-on ns (Inside n fixed stars part) b q m e =
 pub take_split : (bytes : List ℕ) (k p : ℕ) → k ≤ p → take p bytes ≡ take k bytes ++ drop k (take p bytes)
 take_split bytes k p le = sym (take-append-drop k (take p bytes)) ∙ ap (λ (t : List ℕ). t ++ drop k (take p bytes)) (take-take k p bytes le)
 
-is_past-at : (bytes : List ℕ) (n : ℕ) → n < length bytes → is_past (drop n bytes) ≡ true → goes_on (get_or bytes n 0) ≡ true → ⊥
+pub is_past-at : (bytes : List ℕ) (n : ℕ) → n < length bytes → is_past (drop n bytes) ≡ true → goes_on (get_or bytes n 0) ≡ true → ⊥
 is_past-at bytes n lt e g =
     let d : drop n bytes ≡ get_or bytes n 0 ∷ drop (n + 1) bytes = drop_more bytes n 0 lt in
     let P : List ℕ → Type 0 = λ t. is_past t ≡ true in
@@ -102,7 +102,7 @@ found_at ns bytes v n p q h le within e =
       | inr ge ↦ omega arith
     ]
 
-same_some : {X : Type 0} (x y : X) (o : Option X) → o ≡ Some x → o ≡ Some y → x ≡ y
+pub same_some : {X : Type 0} (x y : X) (o : Option X) → o ≡ Some x → o ≡ Some y → x ≡ y
 same_some x y o e f = cc
 
 -- a front is one tag at most
@@ -183,35 +183,6 @@ fails-refuses ns bytes Cut h f = halts-cut ns bytes h f
 fails-refuses ns bytes (Missing n) h f = f
 fails-refuses ns bytes NoMemory h f = tt
 
-take_both : (bytes : List ℕ) (a k : ℕ) → take (a + k) bytes ≡ take a bytes ++ take k (drop a bytes)
-take_both bytes a k =
-    take_split bytes a (a + k) (omega arith) ∙ ap (λ (t : List ℕ). take a bytes ++ t) (drop-take a k bytes)
-
-run_both : (ns : List ℕ) (p q r : Progress) (bytes : List ℕ) (a k : ℕ) → steps ns p (take a bytes) ≡ Some q → steps ns q (take k (drop a bytes)) ≡ Some r → steps ns p (take (a + k) bytes) ≡ Some r
-run_both ns p q r bytes a k e f = ap (steps ns p) (take_both bytes a k) ∙ steps-then ns p q (take a bytes) (take k (drop a bytes)) e ∙ f
-
-pub completes-on : (ns : List ℕ) (p q : Progress) (bytes : List ℕ) (a : ℕ) (v : Tag) (k : ℕ) → a ≤ length bytes → steps ns p (take a bytes) ≡ Some q → Completes ns q (drop a bytes) v k → Completes ns p bytes v (a + k)
-completes-on ns p q bytes a v k le e c =
-    let P : List ℕ → Type 0 = λ t. is_past t ≡ true in
-    record {
-      within = omega (arith, c.within, length-drop a bytes);
-      last = c.last;
-      run = run_both ns p q c.last bytes a k e c.run;
-      tag = c.tag;
-      may = c.may;
-      past = subst P (drop-drop k a bytes) c.past;
-    }
-
-pub barred-on : (ns : List ℕ) (p q : Progress) (bytes : List ℕ) (a k : ℕ) → a ≤ length bytes → steps ns p (take a bytes) ≡ Some q → BarredAt ns q (drop a bytes) k → BarredAt ns p bytes (a + k)
-barred-on ns p q bytes a k le e b =
-    let at : get_or (drop a bytes) k 0 ≡ get_or bytes (a + k) 0 = get_or-drop a bytes k 0 in
-    let P : ℕ → Type 0 = λ x. step ns b.last x ≡ None in
-    let Q : ℕ → Type 0 = λ x. may_end b.last ≡ true → goes_on x ≡ true in
-    record { short = omega (arith, b.short, length-drop a bytes); last = b.last; run = run_both ns p q b.last bytes a k e b.run; none = subst P at b.none; on = subst Q at b.on }
-
-pub halts-on : (ns : List ℕ) (p q : Progress) (bytes : List ℕ) (a : ℕ) → steps ns p (take a bytes) ≡ Some q → Halts ns q (drop a bytes) → Halts ns p bytes
-halts-on ns p q bytes a e c = record { last = c.last; run = ap (steps ns p) (sym (take-append-drop a bytes)) ∙ steps-then ns p q (take a bytes) (drop a bytes) e ∙ c.run; inside = c.inside }
-
 -- a spelling has one tag
 pub one_tag : (v w : Tag) (bytes : List ℕ) → SpellsTag v bytes → SpellsTag w bytes → v ≡ w
 one_tag v w bytes h k =
@@ -235,3 +206,9 @@ some-begins ns bytes s l e = let r = some_is (steps ns (InNumber []) bytes) e in
 
 pub begins-some : (ns bytes : List ℕ) → BeginsTag ns bytes → is_some (steps ns (InNumber []) bytes) ≡ true
 begins-some ns bytes h = let r = begins-read ns bytes h in ap is_some r.1
+
+pub same_found : (ns bytes : List ℕ) (v w : Tag) (n m : ℕ) → FoundTag ns bytes v n → w ≡ v → m ≡ n → FoundTag ns bytes w m
+same_found ns bytes v w n m f tag size =
+    let P : Tag → Type 0 = λ t. FoundTag ns bytes t m in
+    let Q : ℕ → Type 0 = λ k. FoundTag ns bytes v k in
+    subst P (sym tag) (subst Q (sym size) f)

@@ -53,17 +53,17 @@ pub counted : (t : Bool) (x y : ℕ) → cond t (suc x) 0 ≡ suc y → (t ≡ t
 counted true x y e = (refl, omega arith)
 counted false x y e = absurd (omega arith)
 
-pub steps-fixed : (ns : List ℕ) (n : ℕ) (fixed rest bytes : List ℕ) → drop (length fixed) (classes n) ≡ rest → run_length rest bytes ≡ length bytes → steps ns (Inside n fixed [] []) bytes ≡ Some (Inside n (fixed ++ bytes) [] [])
-steps-fixed ns n fixed rest [] e h = ap (λ (f : List ℕ). Some (Inside n f [] [])) (sym (append-nil fixed))
-steps-fixed ns n fixed [] (b ∷ bytes) e h = absurd (omega (arith, h))
-steps-fixed ns n fixed (c ∷ rest) (b ∷ bytes) e h =
+pub steps-fixed : (ns : List ℕ) (n : ℕ) (fixed rest bytes : List ℕ) (stars : List (List ℕ)) (part : List ℕ) → drop (length fixed) (classes n) ≡ rest → run_length rest bytes ≡ length bytes → steps ns (Inside n fixed stars part) bytes ≡ Some (Inside n (fixed ++ bytes) stars part)
+steps-fixed ns n fixed rest [] stars part e h = ap (λ (f : List ℕ). Some (Inside n f stars part)) (sym (append-nil fixed))
+steps-fixed ns n fixed [] (b ∷ bytes) stars part e h = absurd (omega (arith, h))
+steps-fixed ns n fixed (c ∷ rest) (b ∷ bytes) stars part e h =
     let p = counted (is_of_class c b) (run_length rest bytes) (length bytes) h in
     let d = drop_parts (classes n) (length fixed) c rest e in
     let here : is_of_class (get_or (classes n) (length fixed) 0) b ≡ true = rw d.1 p.0 in
     let next : drop (length (fixed ++ b ∷ [])) (classes n) ≡ rest = rw (length_push fixed b) d.2 in
-    step-one ns (Inside n fixed [] []) (Inside n (fixed ++ b ∷ []) [] []) b bytes (step-fixed ns n fixed [] [] b d.0 here)
-    ∙ steps-fixed ns n (fixed ++ b ∷ []) rest bytes next p.1
-    ∙ ap (λ (f : List ℕ). Some (Inside n f [] [])) (append_assoc fixed (b ∷ []) bytes)
+    step-one ns (Inside n fixed stars part) (Inside n (fixed ++ b ∷ []) stars part) b bytes (step-fixed ns n fixed stars part b d.0 here)
+    ∙ steps-fixed ns n (fixed ++ b ∷ []) rest bytes stars part next p.1
+    ∙ ap (λ (f : List ℕ). Some (Inside n f stars part)) (append_assoc fixed (b ∷ []) bytes)
 
 pub steps-text : (ns : List ℕ) (n : ℕ) (fixed : List ℕ) (stars : List (List ℕ)) (part bytes : List ℕ) → length (classes n) ≤ length fixed → list_all is_text_byte bytes ≡ true → length part + length bytes ≤ get_or (maxima n) (length stars) 0 → steps ns (Inside n fixed stars part) bytes ≡ Some (Inside n fixed stars (part ++ bytes))
 steps-text ns n fixed stars part [] le t m = ap (λ (f : List ℕ). Some (Inside n fixed stars f)) (sym (append-nil part))

@@ -1,6 +1,9 @@
 -- The parts of a tag as they stand at the front of bytes. No law cites them: they serve the reader of one tag alone.
-use Rattle.std.specs.Prelude.{ℕ, suc, ◌==◌, List, [], ◌∷◌, take, drop, replicate, if◌then◌else◌, slice_index}
+use Rattle.std.specs.Prelude.{◌≡◌, ℕ, suc, ◌-◌, ◌≤◌, ◌==◌, true, List, [], ◌∷◌, length, take, drop, replicate, if◌then◌else◌, slice_index}
+use Rattle.faim_base.specs.Tags.{is_tag_number}
 use Rattle.faim_tags.specs.Layouts.{is_of_class}
+use Rattle.faim_tags.specs.Spelling.{braced}
+use Rattle.faim_tags.specs.Reading.{is_among}
 
 -- how many bytes at the front are of these classes, one after another
 abbrev pub run_length : List ℕ → List ℕ → ℕ
@@ -18,3 +21,11 @@ closed_stars [] bytes = []
 closed_stars (m ∷ most) bytes =
     if slice_index bytes (text_length m bytes) == 42 then take (text_length m bytes) bytes ∷ closed_stars most (drop (suc (text_length m bytes)) bytes)
     else []
+
+-- the bytes of the number in braces stand at the front, but for the first ones, at most one of them
+pub record FollowsBrace (numbers : List ℕ) (count : ℕ) (bytes : List ℕ) (n : ℕ) : Type 0 where
+  pub few : count ≤ 1
+  pub within : 6 - count ≤ length bytes
+  pub listed : is_tag_number n ≡ true
+  pub among : is_among numbers n ≡ true
+  pub front : take (6 - count) bytes ≡ drop count (braced n)

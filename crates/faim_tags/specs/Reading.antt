@@ -1,5 +1,5 @@
 -- What a reader answers to bytes at whose front a tag is wanted (docs/FORMATS.md, "Tags").
-use Rattle.std.specs.Prelude.{◌≡◌, ℕ, ◌+◌, ◌<◌, ◌≤◌, ◌==◌, ◌||◌, not, Bool, true, List, [], ◌∷◌, ◌++◌, length, take, drop}
+use Rattle.std.specs.Prelude.{◌≡◌, ℕ, ◌<◌, ◌≤◌, ◌==◌, ◌||◌, not, Bool, true, List, [], ◌∷◌, ◌++◌, length, take, drop}
 use Rattle.std.specs.List.{list_any}
 use Rattle.faim_base.specs.Text.{is_text_byte}
 use Rattle.faim_base.specs.declared.judgement.Refused.{Refused}
@@ -50,10 +50,3 @@ RefusesTag numbers bytes (Byte p) = StopsAt numbers bytes p × NoTag numbers byt
 RefusesTag numbers bytes Cut = BeginsTag numbers bytes × NoTag numbers bytes
 RefusesTag numbers bytes (Missing n) = ⊥
 RefusesTag numbers bytes NoMemory = Unit {0}
-
--- the same refusal, told of bytes that begin so many bytes earlier
-abbrev pub moved : ℕ → Refused → Refused
-moved by (Byte k) = Byte (by + k)
-moved by Cut = Cut
-moved by (Missing n) = Missing n
-moved by NoMemory = NoMemory

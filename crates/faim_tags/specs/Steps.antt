@@ -1,4 +1,4 @@
--- What may come next in a tag, byte by byte: it serves the law `steps_tell_what_begins` alone.
+-- What may come next in a tag, byte by byte: the law `steps_tell_what_begins` pins it to what begins a tag.
 use Rattle.std.specs.Prelude.{◌≡◌, ℕ, ◌+◌, ◌*◌, ◌-◌, ◌<◌, ◌≤◌, ◌==◌, ◌&&◌, nat_lt, nat_eq, not, Bool, true, false, List, [], ◌∷◌, ◌++◌, length, take, drop, slice_index, Option, Some, None, if◌then◌else◌}
 use Rattle.std.specs.List.{list_any, starts_with}
 use Rattle.faim_base.specs.Text.{is_text_byte}

@@ -2,20 +2,24 @@
 #![tactic(auto)]
 
 mod classes;
+mod cutting;
 mod laws;
 mod lookup;
 mod number;
+mod partial;
 mod reading;
 mod table;
 mod value;
 mod writing;
 
+pub use cutting::cut_tag;
 pub use laws::{
     each_front_is_judged, one_refusal_in_front, one_spelling, one_tag_in_front,
     steps_tell_what_begins, table_is_sound,
 };
 pub use lookup::layout;
-pub use reading::{moved, read_tag, read_tag_among};
+pub use partial::TagPart;
+pub use reading::{read_tag, read_tag_among};
 pub use table::Layout;
 pub use value::{Stars, TagValue};
 pub use writing::spell;

@@ -1,6 +1,6 @@
 // Which layout a tag has.
-ghost use Rattle.std.specs.Prelude.{◌≡◌};
-ghost use Rattle.faim_tags.specs.Layouts.{row_of};
+ghost use Rattle.std.specs.Prelude.{◌≡◌, ◌≤◌, length, slice_index};
+ghost use Rattle.faim_tags.specs.Layouts.{row_of, maxima};
 
 use crate::table;
 use crate::table::Layout;
@@ -11,6 +11,7 @@ use faim_base::TagNo;
 pub fn layout(no: TagNo) -> &'static Layout
     ensures fixed { result.now.fixed.now ≡ (row_of no).elements }
     ensures stars { result.now.stars.now ≡ (row_of no).most }
+    ensures few { length result.now.fixed.now ≤ 100 }
 {
     match no.get() {
         1100 => &table::DISPOSITION,
@@ -35,4 +36,11 @@ pub fn layout(no: TagNo) -> &'static Layout
         9000 => &table::TWELVE_LINES,
         _ => unreachable!(),
     }
+}
+
+// The greatest length of the star element at a place, 0 where there is none.
+pub(crate) fn greatest(no: TagNo, place: usize) -> u8
+    ensures { result ≡ slice_index (maxima no) place }
+{
+    *layout(no).stars.get(place).unwrap_or(&0)
 }

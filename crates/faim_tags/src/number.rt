@@ -1,12 +1,13 @@
 // The number that a tag begins with.
-ghost use Rattle.std.specs.Prelude.{◌≡◌, ◌+◌, ◌<◌, ◌≤◌, ℕ, [], take, length, true, false, Some, IfSome, IfNone, is_some, nat_eq, MatchResult};
+ghost use Rattle.std.specs.Prelude.{◌≡◌, ◌+◌, ◌*◌, ◌-◌, ◌<◌, ◌≤◌, ℕ, [], ◌∷◌, take, drop, length, slice_index, true, Some, IfSome, is_some, nat_eq};
 ghost use Rattle.std.specs.List.{list_all, starts_with};
 ghost use Rattle.faim_base.specs.Tags.{is_tag_number};
 ghost use Rattle.faim_tags.specs.Spelling.{braced};
 ghost use Rattle.faim_tags.specs.Reading.{is_among};
-ghost use Rattle.faim_tags.specs.Steps.{InNumber, Inside, numbers_begin, steps, Fails};
+ghost use Rattle.faim_tags.specs.Steps.{numbers_begin};
+ghost use Rattle.faim_tags.specs.Parts.{FollowsBrace};
 
-use faim_base::{Refused, TagNo, before};
+use faim_base::{Refused, TagNo, after, are_digits, before};
 
 // A number in braces.
 pub(crate) fn braced(number: u16) -> [u8; 6]
@@ -23,37 +24,75 @@ pub(crate) fn braced(number: u16) -> [u8; 6]
     ]
 }
 
-// The tag's number at the front of the bytes, which is one of the numbers.
-pub(crate) fn read_number(bytes: &[u8], numbers: &[u16]) -> Result<TagNo, Refused>
-    requires some { 0 < length numbers.now }
-    requires listed { list_all is_tag_number numbers.now ≡ true }
-    ensures { MatchResult result
-        (λ n. (6 ≤ length bytes.now) × (is_tag_number n ≡ true) × (steps numbers.now (InNumber []) (take 6 bytes.now) ≡ Some (Inside n [] [] [])))
-        (λ e. Fails numbers.now (InNumber []) bytes.now e) }
-{
-    match known_number(bytes, numbers) {
-        Some(no) => Ok(no),
-        None => Err(stop_at(front_length(bytes, numbers), bytes.len())),
-    }
-}
-
-// The tag's number, where one stands whole at the front.
-fn known_number(bytes: &[u8], numbers: &[u16]) -> Option<TagNo>
+// The number, one of these, of which all bytes in braces stand at the front but for the first ones, at most one of them.
+pub(crate) fn number_after(count: usize, numbers: &[u16], bytes: &[u8]) -> Option<TagNo>
     requires { list_all is_tag_number numbers.now ≡ true }
-    ensures found { IfSome result (λ n. (6 ≤ length bytes.now) × (is_tag_number n ≡ true) × (steps numbers.now (InNumber []) (take 6 bytes.now) ≡ Some (Inside n [] [] []))) }
-    ensures none { IfNone result (6 ≤ length bytes.now → numbers_begin numbers.now (take 6 bytes.now) ≡ false) }
+    ensures { IfSome result (λ n. FollowsBrace numbers.now count bytes.now n) }
 {
-    if bytes.len() < 6 {
+    if 1 < count || bytes.len() < 6 - count {
         return None;
     }
-    match first_with(before(bytes, 6), numbers) {
-        Some(number) => TagNo::new(number),
+    if !has_brace(count, bytes) {
+        return None;
+    }
+    match closed_number(after(bytes, 1 - count)) {
+        Some(number) => {
+            if is_among(numbers, number) {
+                TagNo::new(number)
+            } else {
+                None
+            }
+        }
         None => None,
     }
 }
 
+// The brace before the number stands at the front, or was read before.
+fn has_brace(count: usize, bytes: &[u8]) -> bool
+    requires { 0 < length bytes.now }
+    ensures { result ≡ true → count ≡ 0 → slice_index bytes.now 0 ≡ 123 }
+{
+    0 < count || bytes[0] == b'{'
+}
+
+// The number of the four digits at the front that have a brace after them.
+fn closed_number(bytes: &[u8]) -> Option<u16>
+    requires { 5 ≤ length bytes.now }
+    ensures { IfSome result (λ n. take 5 bytes.now ≡ drop 1 (braced n)) }
+{
+    if are_digits(before(bytes, 4)) && bytes[4] == b'}' {
+        Some(number_in(bytes))
+    } else {
+        None
+    }
+}
+
+// The number is one of these.
+fn is_among(numbers: &[u16], number: u16) -> bool
+    ensures { result ≡ is_among numbers.now number }
+{
+    numbers.iter().any(|n| *n == number)
+}
+
+// The number of the four digits at the front.
+pub(crate) fn number_in(bytes: &[u8]) -> u16
+    requires { 4 ≤ length bytes.now }
+    ensures { (a b c d : ℕ) → a < 10 → b < 10 → c < 10 → d < 10 → take 4 bytes.now ≡ (48 + a) ∷ (48 + b) ∷ (48 + c) ∷ (48 + d) ∷ []
+        → result ≡ 1000 * a + 100 * b + 10 * c + d }
+{
+    1000 * digit(bytes[0]) + 100 * digit(bytes[1]) + 10 * digit(bytes[2]) + digit(bytes[3])
+}
+
+// The value of a digit.
+fn digit(b: u8) -> u16
+    ensures small { result < 16 }
+    ensures value { (d : ℕ) → d < 10 → b ≡ 48 + d → result ≡ d }
+{
+    u16::from(b % 16)
+}
+
 // The first of the numbers that begins so in braces.
-fn first_with(front: &[u8], numbers: &[u16]) -> Option<u16>
+pub(crate) fn first_with(front: &[u8], numbers: &[u16]) -> Option<u16>
     requires { list_all is_tag_number numbers.now ≡ true }
     ensures found { IfSome result (λ n. (is_among numbers.now n ≡ true) × (starts_with nat_eq (braced n) front.now ≡ true)) }
     ensures any { is_some result ≡ numbers_begin numbers.now front.now }
@@ -64,25 +103,6 @@ fn first_with(front: &[u8], numbers: &[u16]) -> Option<u16>
         }
     }
     None
-}
-
-// How many bytes at the front begin one of the numbers in braces.
-fn front_length(bytes: &[u8], numbers: &[u16]) -> usize
-    requires some { 0 < length numbers.now }
-    requires listed { list_all is_tag_number numbers.now ≡ true }
-    ensures within { result ≤ length bytes.now }
-    ensures few { result ≤ 6 }
-    ensures begins { numbers_begin numbers.now (take result bytes.now) ≡ true }
-    ensures stops { result < length bytes.now → result < 6 → numbers_begin numbers.now (take (result + 1) bytes.now) ≡ false }
-{
-    let mut count = 0;
-    while count < 6 && count < bytes.len() {
-        if first_with(before(bytes, count + 1), numbers).is_none() {
-            return count;
-        }
-        count += 1;
-    }
-    count
 }
 
 // Where reading stops: at a byte, or at the end of the bytes.

@@ -37,6 +37,32 @@ fn whole_tags_are_read_up_to_their_end(rt: HostRuntime) {
     }
 }
 
+// What is cut off as a tag, of bytes that have one in front: how many bytes it has, how many star elements, and whether
+// the last of them has its star.
+fn cut_off(alloc: Global, bytes: &[u8]) -> Result<(usize, usize, bool), Refused> {
+    let _found = match read_tag(alloc, bytes) {
+        Ok(found) => found,
+        Err(refused) => return Err(refused),
+    };
+    match cut_tag(alloc, bytes) {
+        Ok((value, length)) => Ok((length, value.stars.as_slice().len(), value.closed)),
+        Err(NoMemory) => Err(Refused::NoMemory),
+    }
+}
+
+#[test]
+fn a_tag_is_cut_off_with_its_star_elements(rt: HostRuntime) {
+    let cases: [(&[u8], (usize, usize, bool)); 4] = [
+        (b"{1510}1000{1520}", (10, 0, false)),
+        (b"{3100}021000021ALPHA BANK*\r\n{3400}", (26, 1, true)),
+        (b"{3100}021000021ABCDEFGHIJKLMNOPQR\n{3400}", (33, 1, false)),
+        (b"{6420}CHECK*{6500}", (12, 1, true)),
+    ];
+    for (bytes, cut) in cases {
+        assert_eq!(rt; cut_off(rt.alloc(), bytes), Ok(cut));
+    }
+}
+
 #[test]
 fn other_bytes_are_refused_at_their_first_wrong_byte(rt: HostRuntime) {
     let cases: [(&[u8], Refused); 9] = [
@@ -73,12 +99,6 @@ fn a_layout_has_its_elements(rt: HostRuntime) -> Result<(), Fail> {
     assert_eq!(rt; layout(no).fixed, [(b't', 3)].as_slice());
     assert_eq!(rt; layout(no).stars, [26, 33, 33, 33, 33, 33].as_slice());
     Ok(())
-}
-
-#[test]
-fn a_refusal_is_moved_by_its_place(rt: HostRuntime) {
-    assert_eq!(rt; moved(Refused::Byte(3), 6), Refused::Byte(9));
-    assert_eq!(rt; moved(Refused::Cut, 6), Refused::Cut);
 }
 
 // A row of the table: a tag's number in braces, the class and the length of each fixed element, and the greatest length

@@ -7,3 +7,5 @@ pub mod Magnitudes
 pub mod SoundScripts
 pub mod Counted
 pub mod Endings
+pub mod FedLemmas
+pub mod WholeScripts

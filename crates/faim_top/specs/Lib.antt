@@ -8,5 +8,6 @@ pub mod Reading
 pub mod Checks
 pub mod Seen
 pub mod Ends
+pub mod Sources
 pub mod Promises
 pub mod ExitCodes

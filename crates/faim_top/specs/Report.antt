@@ -9,7 +9,7 @@ use Rattle.faim_base.specs.declared.judgement.Verdict.TheVariants.{Taken, Refuse
 use Rattle.faim_base.specs.Calendar.{date_text}
 use Rattle.faim_base.specs.Digits.{padded}
 use Rattle.faim_model.specs.declared.decisions.HostOutcome.{HostOutcome}
-use Rattle.faim_model.specs.declared.decisions.HostOutcome.TheVariants.{Recorded, Known, TurnedAway, Retrieved}
+use Rattle.faim_model.specs.declared.decisions.HostOutcome.TheVariants.{Recorded, Known, TurnedAway, Retrieved, Rolled, NotLater, Strange}
 use Rattle.faim_top.specs.declared.script.Why.{Why}
 use Rattle.faim_top.specs.declared.script.Why.TheVariants.{Shape, Value, Twice, Place, Limit, Ended, Size}
 use Rattle.faim_top.specs.declared.script.ScriptFault.{ScriptFault}
@@ -31,6 +31,9 @@ host_outcome_text (Recorded i v) = verdict_text i v
 host_outcome_text (Known i v) = codes "again " ++ verdict_text i v
 host_outcome_text (TurnedAway why) = codes "turned " ++ reject_text why
 host_outcome_text (Retrieved n) = codes "retrieved " ++ decimal n
+host_outcome_text (Rolled date) = codes "rolled " ++ date_text date
+host_outcome_text (NotLater current) = codes "notlater " ++ date_text current
+host_outcome_text Strange = codes "strange"
 
 abbrev pub outcome_text : Outcome → List ℕ
 outcome_text (Host x) = host_outcome_text x

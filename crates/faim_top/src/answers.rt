@@ -1,41 +1,59 @@
 // What a command answers to an input.
-ghost use Rattle.std.specs.Prelude.{◌≡◌, ◌≢◌, ◌⊎◌, IfOk};
+ghost use Rattle.std.specs.Prelude.{◌≡◌, ◌≢◌, ◌⊎◌, Err, IfOk};
 ghost use Rattle.faim_top.specs.Grammar.{script_of};
-ghost use Rattle.faim_top.specs.Ends.{Answers, Checked, answer_text, answer_status};
+ghost use Rattle.faim_top.specs.Ends.{Reads, answer_text, answer_status, most_read};
+ghost use Rattle.faim_top.specs.Seen.{CountsFaults, LosesAtMost, seen};
+ghost use Rattle.faim_top.specs.Sources.{AnswersSource, TakesLittleBeyond};
 ghost use Rattle.faim_top.specs.Checks.{accepted_text, env_of, failed_edit, edit_line, message_status, message_text, refusal_line};
 ghost use Rattle.faim_message.specs.Spelling.{message_spelling};
 ghost use Rattle.faim_edits.specs.Printing.{table_text};
 
+use crate::feeding::{Unread, read_message};
 use crate::play::report;
 use crate::printing::{print_fault, print_refused};
+use crate::reader::SIZE_LIMIT;
+use crate::streams::{ReadEnd, read_up_to};
 use crate::{Command, Reason, ScriptRefused, Status, read_script};
-use faim_base::{NoMemory, Refused};
+use faim_base::{LONGEST_MESSAGE, NoMemory, Refused};
 use faim_edits::{EditNo, first_failed, print_edit, print_table, test_or_production};
-use faim_message::{Form, Message, decode, encode};
+use faim_message::{Form, Message, encode};
+use site_core::Source;
 use std::alloc::Global;
 
-// What is to be written of an input, and the status once it is written.
-pub(crate) fn answer_to(
+// The line before a message that fails no edit.
+const ACCEPTED: &[u8] = b"accepted\n";
+
+// What is to be written of what a source gives, and the status once it is written.
+#[tactic(auto, using(crate::proofs::WholeScripts::tabled, crate::proofs::WholeScripts::takes_none))]
+pub(crate) fn answer_to<I: Source>(
     alloc: Global,
     command: Command,
-    text: &[u8],
-) -> Result<(Vec<u8>, Status), NoMemory>
-    ensures { IfOk result (λ a. Answers command text.now a.1 a.0.items) }
+    input: &mut I,
+) -> Result<(Vec<u8>, Status), ReadEnd>
+    ensures answer { IfOk result (λ a. AnswersSource command (seen I.left input.old input.new) a.1 a.0.items) }
+    ensures few { LosesAtMost (most_read command) (seen I.left input.old input.new) }
+    ensures beyond { command ≡ Command.Check → TakesLittleBeyond (seen I.left input.old input.new) }
+    ensures asked { result ≡ Err ReadEnd.Failed → Reads command }
+    ensures faults { CountsFaults (result ≡ Err ReadEnd.Failed) (seen I.read_faults input.old input.new) }
 {
     match command {
-        Command::Check => check(alloc, text),
-        Command::Table => table(alloc),
-        Command::Replay => replay(alloc, text),
+        Command::Check => check(alloc, input),
+        Command::Table => Ok(table(alloc)?),
+        Command::Replay => replay(alloc, input),
     }
 }
 
-// The message after a line, or the line that says which edit it fails or why the text is none.
-fn check(alloc: Global, text: &[u8]) -> Result<(Vec<u8>, Status), NoMemory>
-    ensures { IfOk result (λ a. Checked text.now a.1 a.0.items) }
+// The message after a line, or the line that says which edit it fails or why the input is none.
+fn check<I: Source>(alloc: Global, input: &mut I) -> Result<(Vec<u8>, Status), ReadEnd>
+    ensures answer { IfOk result (λ a. AnswersSource Command.Check (seen I.left input.old input.new) a.1 a.0.items) }
+    ensures few { LosesAtMost (most_read Command.Check) (seen I.left input.old input.new) }
+    ensures beyond { TakesLittleBeyond (seen I.left input.old input.new) }
+    ensures faults { CountsFaults (result ≡ Err ReadEnd.Failed) (seen I.read_faults input.old input.new) }
 {
-    match decode(alloc, text, Form::Input) {
-        Ok(message) => tried(alloc, &message),
-        Err(why) => refused(alloc, why),
+    match read_message(alloc, input) {
+        Ok(message) => Ok(tried(alloc, &message)?),
+        Err(Unread::Refused(why)) => Ok(refused(alloc, why)?),
+        Err(Unread::Failed) => Err(ReadEnd::Failed),
     }
 }
 
@@ -75,8 +93,8 @@ fn failed(alloc: Global, number: EditNo) -> Result<(Vec<u8>, Status), NoMemory>
 fn accepted(alloc: Global, message: &Message) -> Result<(Vec<u8>, Status), NoMemory>
     ensures { IfOk result (λ a. (a.1 ≡ Status.Done) × (a.0.items ≡ accepted_text (message_spelling message.now))) }
 {
-    let mut answer = Vec::new(alloc);
-    answer.extend_from_slice(b"accepted\n")?;
+    let mut answer = Vec::with_capacity(alloc, ACCEPTED.len() + LONGEST_MESSAGE)?;
+    answer.extend_from_slice(ACCEPTED)?;
     encode(message, &mut answer)?;
     Ok((answer, Status::Done))
 }
@@ -96,8 +114,20 @@ fn table(alloc: Global) -> Result<(Vec<u8>, Status), NoMemory>
     Ok((print_table(alloc, 1)?, Status::Done))
 }
 
-// The report of a script, or the line of its first fault.
-fn replay(alloc: Global, text: &[u8]) -> Result<(Vec<u8>, Status), NoMemory>
+// The report of the script that a source gives, or the line of its first fault.
+fn replay<I: Source>(alloc: Global, input: &mut I) -> Result<(Vec<u8>, Status), ReadEnd>
+    ensures answer { IfOk result (λ a. AnswersSource Command.Replay (seen I.left input.old input.new) a.1 a.0.items) }
+    ensures few { LosesAtMost (most_read Command.Replay) (seen I.left input.old input.new) }
+    ensures faults { CountsFaults (result ≡ Err ReadEnd.Failed) (seen I.read_faults input.old input.new) }
+{
+    let text = match read_up_to(alloc, input, SIZE_LIMIT + 1) {
+        Ok(text) => text,
+        Err(end) => return Err(end),
+    };
+    Ok(reported(alloc, text.as_slice())?)
+}
+
+fn reported(alloc: Global, text: &[u8]) -> Result<(Vec<u8>, Status), NoMemory>
     ensures { IfOk result (λ a. (a.1 ≡ answer_status (script_of text.now)) × (a.0.items ≡ answer_text (script_of text.now))) }
 {
     match read_script(alloc, text) {

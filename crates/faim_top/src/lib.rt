@@ -4,6 +4,7 @@
 mod accounts;
 mod answers;
 mod command;
+mod feeding;
 mod fields;
 mod laws;
 mod lines;

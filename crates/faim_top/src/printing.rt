@@ -128,6 +128,18 @@ fn write_host_outcome(
             out.extend_from_slice(b"retrieved ")?;
             write_number(alloc, i128::from(*count), out)
         }
+        HostOutcome::Rolled(date) => {
+            out.extend_from_slice(b"rolled ")?;
+            write_date(*date, out)
+        }
+        HostOutcome::NotLater { current } => {
+            out.extend_from_slice(b"notlater ")?;
+            write_date(*current, out)
+        }
+        HostOutcome::Strange => {
+            out.extend_from_slice(b"strange")?;
+            Ok(())
+        }
     }
 }
 

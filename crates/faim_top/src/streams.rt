@@ -9,13 +9,24 @@ use site_core::{Sink, Source};
 use std::alloc::Global;
 
 // How many bytes are asked for at a time.
-const CHUNK: usize = 4_096;
+pub(crate) const CHUNK: usize = 4_096;
 
 // Why the input was not read.
 #[derive(Clone, Copy, Debug, PartialEq, Eq)]
 pub(crate) enum ReadEnd {
     Failed,
     NoMemory,
+}
+
+impl From<NoMemory> for ReadEnd {
+    ghost use Rattle.std.specs.Prelude.{◌≡◌};
+    ghost use Rattle.faim_top.specs.declared.streams.ReadEnd.TheVariants as ends;
+
+    ghost from_gives = { λ _ e. e ≡ ends.NoMemory };
+
+    fn from(_: NoMemory) -> ReadEnd {
+        ReadEnd::NoMemory
+    }
 }
 
 // The bytes that the source gives until it ends, at most so many.

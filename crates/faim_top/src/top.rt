@@ -1,19 +1,17 @@
 // The top call.
-ghost use Rattle.std.specs.Prelude.{◌≡◌, ◌≢◌, ◌↔◌, IsNone, IfSome, IfOk};
+ghost use Rattle.std.specs.Prelude.{◌≡◌, ◌≢◌, ◌↔◌, Some, IsNone, IfSome, IfOk};
 ghost use Rattle.std.specs.Io.KnownBytes.{Keeps};
 ghost use Rattle.site_core.specs.Counts.{Rose};
 ghost use Rattle.faim_top.specs.Words.{command_of, texts};
 ghost use Rattle.faim_top.specs.Grammar.{script_of};
 ghost use Rattle.faim_top.specs.Seen.{CountsFaults, LosesAtMost, seen};
 ghost use Rattle.faim_top.specs.Ends.{Ended, IsAnswered, input_of, most_read};
+ghost use Rattle.faim_top.specs.Sources.{TakesLittleBeyond};
 ghost use Rattle.faim_top.specs.Promises.{KeepsPromises};
 
 use crate::answers::answer_to;
-use crate::reader::SIZE_LIMIT;
-use crate::streams::{ReadEnd, read_up_to, write_all};
+use crate::streams::{ReadEnd, write_all};
 use crate::{Command, Status, promises_kept, scripts_are_sound};
-use faim_base::LONGEST_MESSAGE;
-use faim_message::spellings_are_short;
 use site_core::{Sink, Source};
 use std::alloc::Global;
 
@@ -36,6 +34,9 @@ pub fn run<I: Source, O: Sink>(
     // No more is read than one byte beyond what the command takes; for a table nothing is.
     ensures few { IfSome (command_of (texts words.now)) (λ command. LosesAtMost (most_read command) (seen I.left input.old input.new)) }
 
+    // A check takes no more than 4,096 bytes beyond the first byte with which no message goes on, whatever the status.
+    ensures stops { command_of (texts words.now) ≡ Some Command.Check → TakesLittleBeyond (seen I.left input.old input.new) }
+
     // Each object's fault comes exactly where it counted one in this call.
     ensures input_faults { CountsFaults (result ≡ Status.ReadFault) (seen I.read_faults input.old input.new) }
     ensures output_faults { CountsFaults (result ≡ Status.WriteFault) (seen O.write_faults out.old out.new) }
@@ -55,8 +56,7 @@ pub fn run<I: Source, O: Sink>(
     }
 }
 
-// Reads the input of a command, and writes the answer to it.
-#[tactic(auto, using(crate::proofs::Endings::reads_some))]
+// Writes the answer to a command's input.
 fn carry_out<I: Source, O: Sink>(
     alloc: Global,
     command: Command,
@@ -65,34 +65,19 @@ fn carry_out<I: Source, O: Sink>(
 ) -> Status
     ensures ended { Ended command result (record { left = seen I.left input.old input.new; written = seen O.written out.old out.new }) }
     ensures few { LosesAtMost (most_read command) (seen I.left input.old input.new) }
+    ensures stops { command ≡ Command.Check → TakesLittleBeyond (seen I.left input.old input.new) }
     ensures input_faults { CountsFaults (result ≡ Status.ReadFault) (seen I.read_faults input.old input.new) }
     ensures output_faults { CountsFaults (result ≡ Status.WriteFault) (seen O.write_faults out.old out.new) }
     ensures complete { (Rose (I.read_faults input.old) (I.read_faults input.new) → ⊥) → (Rose (O.write_faults out.old) (O.write_faults out.new) → ⊥)
         → result ≢ Status.NoMemory → IfSome (input_of command (I.left input.old)) (IsAnswered command result) }
 {
-    spellings_are_short();
-    let text = match read_up_to(alloc, input, most_of(command)) {
-        Ok(text) => text,
+    let (answer, status) = match answer_to(alloc, command, input) {
+        Ok(answer) => answer,
         Err(ReadEnd::Failed) => return Status::ReadFault,
         Err(ReadEnd::NoMemory) => return Status::NoMemory,
-    };
-    let (answer, status) = match answer_to(alloc, command, text.as_slice()) {
-        Ok(answer) => answer,
-        Err(_) => return Status::NoMemory,
     };
     match write_all(out, answer.as_slice()) {
         Ok(()) => status,
         Err(_) => Status::WriteFault,
-    }
-}
-
-// How many bytes are enough to answer: one more than the command takes.
-fn most_of(command: Command) -> usize
-    ensures { result ≡ most_read command }
-{
-    match command {
-        Command::Check => LONGEST_MESSAGE + 1,
-        Command::Table => 0,
-        Command::Replay => SIZE_LIMIT + 1,
     }
 }

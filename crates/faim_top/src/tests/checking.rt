@@ -1,3 +1,5 @@
+ghost use Rattle.std.specs.Prelude.{◌<◌};
+
 use super::{Ran, Streams, bytes, owned, run_over};
 use crate::{Reason, Status, run};
 use faim_base::{Bytes, NoMemory, Places, Refused, TagNo};
@@ -27,15 +29,25 @@ const NAME_TOO_LONG: &[u8] =
 const TO_NOBODY: &[u8] =
     b"{1500}30USERREQ1T {1510}1000{1520}20240102BANKA001000001{2000}000000150000{3100}021000021ALPHA BANK*{3400}231380104BETA BANK*{3600}BTR";
 
-// An input is checked, with reads that end at these places.
-fn checked(alloc: Global, input: &[u8], cuts: &[usize]) -> Result<Ran, NoMemory> {
+// The check digit of this receiver is wrong.
+const TO_WRONG_DIGIT: &[u8] =
+    b"{1500}30USERREQ1T {1510}1000{1520}20240102BANKA001000001{2000}000000150000{3100}021000021ALPHA BANK*{3400}021000022BETA BANK*{3600}BTR";
+
+// An input is checked that comes in pieces of this size.
+fn checked(alloc: Global, input: &[u8], size: usize) -> Result<Ran, NoMemory>
+    requires { 0 < size }
+{
+    let cuts = cuts_after(alloc, size, input.len())?;
     let streams = Streams {
-        cuts,
+        cuts: cuts.as_slice(),
         read_fails: &[],
         write_fails: &[],
     };
     run_over(alloc, &["check"], input, &streams)
 }
+
+// A size that is larger than each input here.
+const WHOLE: usize = 10_000;
 
 fn joined(alloc: Global, front: &[u8], after: &[u8]) -> Result<Bytes, NoMemory> {
     let mut all = bytes(alloc, front)?;
@@ -43,11 +55,15 @@ fn joined(alloc: Global, front: &[u8], after: &[u8]) -> Result<Bytes, NoMemory> 
     Ok(all)
 }
 
-// Cuts between all bytes.
-fn each_byte(alloc: Global, input: &[u8]) -> Result<Places, NoMemory> {
+// Cuts of so many bytes into pieces of this size.
+fn cuts_after(alloc: Global, size: usize, length: usize) -> Result<Places, NoMemory>
+    requires { 0 < size }
+{
     let mut cuts = Places::new(alloc);
-    for cut in 1..input.len() {
-        cuts.push(cut)?;
+    for cut in 1..length {
+        if cut % size == 0 {
+            cuts.push(cut)?;
+        }
     }
     Ok(cuts)
 }
@@ -56,12 +72,9 @@ fn each_byte(alloc: Global, input: &[u8]) -> Result<Places, NoMemory> {
 fn a_message_is_accepted_and_written_again(rt: HostRuntime) -> Result<(), Fail> {
     for message in [JOINED, IN_LINES, OF_CUSTOMER, FULL_NAME, TO_NOBODY] {
         let wanted = joined(rt.alloc(), b"accepted\n", message)?;
-        let cuts = each_byte(rt.alloc(), message)?;
-        for cuts in [&[], cuts.as_slice()] {
-            let ran = checked(rt.alloc(), message, cuts)?;
-            assert_eq!(rt; ran.status, Status::Done);
-            assert_eq!(rt; ran.written.as_slice(), wanted.as_slice());
-        }
+        let ran = checked(rt.alloc(), message, WHOLE)?;
+        assert_eq!(rt; ran.status, Status::Done);
+        assert_eq!(rt; ran.written.as_slice(), wanted.as_slice());
     }
     Ok(())
 }
@@ -77,14 +90,34 @@ fn an_input_is_refused_at_its_first_wrong_byte(rt: HostRuntime) -> Result<(), Fa
         (NAME_TOO_LONG, b"byte 107\n", 107),
     ];
     for (input, line, place) in cases {
-        let cuts = each_byte(alloc, input)?;
-        for cuts in [&[], cuts.as_slice()] {
-            let ran = checked(alloc, input, cuts)?;
-            assert_eq!(rt;
-                ran.status,
-                Status::Refused(Reason::Text(Refused::Byte(place)))
-            );
-            assert_eq!(rt; ran.written.as_slice(), line);
+        let ran = checked(alloc, input, WHOLE)?;
+        assert_eq!(rt;
+            ran.status,
+            Status::Refused(Reason::Text(Refused::Byte(place)))
+        );
+        assert_eq!(rt; ran.written.as_slice(), line);
+    }
+    Ok(())
+}
+
+#[test]
+fn pieces_change_no_answer(rt: HostRuntime) -> Result<(), Fail> {
+    let alloc = rt.alloc();
+    let inputs: [&[u8]; 7] = [
+        JOINED,
+        IN_LINES,
+        OF_CUSTOMER,
+        NAME_TOO_LONG,
+        &JOINED[..125],
+        &OF_CUSTOMER[..20],
+        TO_WRONG_DIGIT,
+    ];
+    for input in inputs {
+        let whole = checked(alloc, input, WHOLE)?;
+        for size in [1, 2, 64] {
+            let ran = checked(alloc, input, size)?;
+            assert_eq!(rt; ran.status, whole.status);
+            assert_eq!(rt; ran.written.as_slice(), whole.written.as_slice());
         }
     }
     Ok(())
@@ -101,7 +134,7 @@ fn an_input_that_ends_too_early_is_refused(rt: HostRuntime) -> Result<(), Fail> 
         (&JOINED[..125], b"missing 3600\n", Refused::Missing(code)),
     ];
     for (input, line, why) in cases {
-        let ran = checked(alloc, input, &[])?;
+        let ran = checked(alloc, input, WHOLE)?;
         assert_eq!(rt; ran.status, Status::Refused(Reason::Text(why)));
         assert_eq!(rt; ran.written.as_slice(), line);
         assert_eq!(rt; ran.status.code(), 3);
@@ -113,7 +146,7 @@ fn an_input_that_ends_too_early_is_refused(rt: HostRuntime) -> Result<(), Fail> 
 fn the_first_edit_that_fails_is_told(rt: HostRuntime) -> Result<(), Fail> {
     let cases: [(&[u8], &[u8], u16); 3] = [
         (
-            b"{1500}30USERREQ1T {1510}1000{1520}20240102BANKA001000001{2000}000000150000{3100}021000021ALPHA BANK*{3400}021000022BETA BANK*{3600}BTR",
+            TO_WRONG_DIGIT,
             b"edit E107 RECEIVER CHECK DIGIT IS WRONG\n",
             107,
         ),
@@ -129,7 +162,7 @@ fn the_first_edit_that_fails_is_told(rt: HostRuntime) -> Result<(), Fail> {
         ),
     ];
     for (input, line, number) in cases {
-        let ran = checked(rt.alloc(), input, &[])?;
+        let ran = checked(rt.alloc(), input, WHOLE)?;
         let number = EditNo::new(number).ok_or("an edit")?;
         assert_eq!(rt; ran.status, Status::Refused(Reason::Edit(number)));
         assert_eq!(rt; ran.written.as_slice(), line);
@@ -138,27 +171,43 @@ fn the_first_edit_that_fails_is_told(rt: HostRuntime) -> Result<(), Fail> {
     Ok(())
 }
 
-// Adds so many letters.
-fn add_letters(text: &mut Bytes, count: usize) -> Result<(), NoMemory> {
-    for _ in 0..count {
-        text.push(b'X')?;
+// A message, and so many thousands of letters after it.
+fn with_letters(alloc: Global, thousands: usize) -> Result<Bytes, NoMemory> {
+    let mut text = bytes(alloc, JOINED)?;
+    for _ in 0..thousands {
+        text.extend(&[b'x'; 1_000])?;
     }
-    Ok(())
+    Ok(text)
+}
+
+// How many bytes a source has left, where that is 4 MB at most.
+fn count_left(source: &mut MemSource) -> usize {
+    let mut buf = [0; 4_096];
+    let mut count: usize = 0;
+    for _ in 0..1_000 {
+        count = count.saturating_add(source.read(&mut buf).unwrap_or(0));
+    }
+    count
 }
 
 #[test]
-fn no_more_is_read_than_one_byte_beyond_the_longest_message(rt: HostRuntime) -> Result<(), Fail> {
+fn nothing_is_read_after_a_wrong_byte(rt: HostRuntime) -> Result<(), Fail> {
     let alloc = rt.alloc();
-    let mut input = bytes(alloc, JOINED)?;
-    add_letters(&mut input, 5_000)?;
     let words = owned(alloc, &["check"])?;
-    let mut source = MemSource::new(input, Places::new(alloc), Places::new(alloc));
-    let mut sink = MemSink::new(alloc, Places::new(alloc));
-    let status = run(alloc, words.as_slice(), &mut source, &mut sink);
-    assert_eq!(rt; status, Status::Refused(Reason::Text(Refused::Byte(137))));
-    assert_eq!(rt; sink.bytes(), b"byte 137\n".as_slice());
-    let mut rest = [0; 1_000];
-    assert_eq!(rt; source.read(&mut rest), Ok(899));
+    for (thousands, size, left) in [
+        (5, WHOLE, 1_038),
+        (1_000, WHOLE, 996_038),
+        (1_000, 64, 999_942),
+    ] {
+        let input = with_letters(alloc, thousands)?;
+        let mut source = MemSource::new(input, cuts_after(alloc, size, 4_235)?, Places::new(alloc));
+        let mut sink = MemSink::new(alloc, Places::new(alloc));
+        let status = run(alloc, words.as_slice(), &mut source, &mut sink);
+        assert_eq!(rt; status, Status::Refused(Reason::Text(Refused::Byte(137))));
+        assert_eq!(rt; status.code(), 3);
+        assert_eq!(rt; sink.bytes(), b"byte 137\n".as_slice());
+        assert_eq!(rt; count_left(&mut source), left);
+    }
     Ok(())
 }
 

@@ -160,20 +160,31 @@ fn scripts_are_read_and_reports_printed(rt: HostRuntime) -> Result<(), Fail> {
     };
     let turned = Outcome::Host(HostOutcome::TurnedAway(why));
     print_outcome(rt.alloc(), 12, &turned, &mut out)?;
+    let cycle = CycleDate::read(b"20240102").ok_or("a date")?;
+    let rolled = Outcome::Host(HostOutcome::Rolled(cycle));
+    print_outcome(rt.alloc(), 13, &rolled, &mut out)?;
+    let not_later = Outcome::Host(HostOutcome::NotLater { current: cycle });
+    print_outcome(rt.alloc(), 14, &not_later, &mut out)?;
+    print_outcome(
+        rt.alloc(),
+        15,
+        &Outcome::Host(HostOutcome::Strange),
+        &mut out,
+    )?;
     let mut balances = Balances::new(rt.alloc());
     let aba = Aba::read(b"021000021").ok_or("an account")?;
     balances.push((aba, -5))?;
     let mut outputs = Counts::new(rt.alloc());
     let endpoint = Endpoint::read(b"BANKA001").ok_or("an endpoint")?;
     outputs.push((endpoint, 7))?;
-    let cycle = CycleDate::read(b"20240102").ok_or("a date")?;
     let closing = Closing {
         cycle,
         balances,
         outputs,
     };
     print_closing(rt.alloc(), &closing, &mut out)?;
-    let want = b"12 turned X201\ncycle 20240102\nbalance 021000021 -5\noutputs BANKA001 7\nend\n";
+    let want =
+        b"12 turned X201\n13 rolled 20240102\n14 notlater 20240102\n15 strange\ncycle 20240102\nbalance 021000021 -5\noutputs BANKA001 7\nend\n";
     assert_eq!(rt; out.as_slice(), want.as_slice());
     Ok(())
 }

@@ -2,6 +2,7 @@ use Rattle.std.proofs.Common.{◌≡◌, IfSome, Option, List, ℕ, sym, subst}
 use Rattle.faim_top.specs.Words.{command_of, texts}
 use Rattle.faim_top.specs.Seen.{LosesAtMost, Seen, seen}
 use Rattle.faim_top.specs.Ends.{Ended, most_read}
+use Rattle.faim_top.specs.Sources.{TakesLittleBeyond}
 use Rattle.faim_cli.proofs.between.run_between.Goals as goal
 
 -- what an adapter tells at its ends is what its object tells
@@ -25,3 +26,9 @@ returns-clause-few g c =
     same_seen g.R.Read.remaining (λ reads. IfSome (command_of (texts c.args.words.now)) (λ k. LosesAtMost (most_read k) reads))
     c.args.reader c.new-input.result.reader c.into_reader.result c.run-status.new.input.reader c.new-input.ensures.reader c.into_reader.ensures
     c.run-status.ensures.few
+
+pub returns-clause-stops : goal.returns-clause-stops
+returns-clause-stops g c = λ check.
+    same_seen g.R.Read.remaining TakesLittleBeyond
+    c.args.reader c.new-input.result.reader c.into_reader.result c.run-status.new.input.reader c.new-input.ensures.reader c.into_reader.ensures
+    (c.run-status.ensures.stops check)

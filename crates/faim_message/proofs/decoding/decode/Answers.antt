@@ -1,45 +1,48 @@
-use Rattle.std.proofs.Common.{◌≡◌, None, Some, refl, sym, ap, subst, ◌∙◌}
-use Rattle.faim_base.specs.declared.judgement.Refused.{Refused}
-use Rattle.faim_message.specs.Spelling.{Content, Spells}
-use Rattle.faim_message.specs.Refusal.{Refuses, missing}
-use Rattle.faim_message.proofs.Judge.{fails-refuses, ends-spells, ends-missing}
+use Rattle.std.proofs.Common.{◌≡◌, [], None, Some, subst}
+use Rattle.std.specs.Prelude.{◌≢◌, IfOk, IfErr}
+use Rattle.faim_base.specs.declared.judgement.Refused.TheVariants.{Byte, NoMemory}
+use Rattle.faim_message.specs.declared.form.Form.{Form}
+use Rattle.faim_message.specs.Spelling.{Spells}
+use Rattle.faim_message.specs.Refusal.{Refuses}
 use Rattle.faim_message.specs.Decoded.{decoded}
-use Rattle.faim_message.proofs.Decodings.{spelled_as, refused_undecoded}
+use Rattle.faim_message.proofs.Decodings.{refused_undecoded}
+use Rattle.faim_message.proofs.PartialLemmas.{read_form, read_own, read_all, stop_refused}
 use Rattle.faim_message.proofs.decoding.decode.Goals as goal
 
-pub returns-in-Err-clause-refused : goal.returns-in-Err-clause-refused
-returns-in-Err-clause-refused c = fails-refuses c.args.form c.args.bytes.now c.in-Err.refused c.in-Err.ensures
+pub returns-then-count-bytes-clause-refused : goal.returns-then-count-bytes-clause-refused
+returns-then-count-bytes-clause-refused c =
+    stop_refused c.args.form c.args.bytes.now c.read-count.result (c.read-count.ensures.stops c.args.form [] c.new-part.ensures.nothing c.if-count-bytes.true)
 
-pub message_of-requires : goal.message_of-requires
-message_of-requires c =
-    let none : missing c.args.form c.in-Ok.read.0 ≡ None = ap (missing c.args.form) (sym c.as_slice.ensures) ∙ sym c.missing_number.ensures ∙ c.in-None.is in
-    (ends-spells c.args.form c.args.bytes.now c.in-Ok.read.0 c.in-Ok.read.1 c.in-Ok.ensures none).sound
+pub returns-then-count-bytes-clause-none_read : goal.returns-then-count-bytes-clause-none_read
+returns-then-count-bytes-clause-none_read c other =
+    refused_undecoded c.args.form c.args.bytes.now (Byte c.read-count.result)
+    (stop_refused c.args.form c.args.bytes.now c.read-count.result (c.read-count.ensures.stops c.args.form [] c.new-part.ensures.nothing c.if-count-bytes.true)) other
 
-pub returns-in-Some-clause-refused : goal.returns-in-Some-clause-refused
-returns-in-Some-clause-refused c =
-    let some : missing c.args.form c.in-Ok.read.0 ≡ Some c.in-Some.number = ap (missing c.args.form) (sym c.as_slice.ensures) ∙ sym c.missing_number.ensures ∙ c.in-Some.is in
-    let P : Refused → Type 0 = λ r. Refuses c.args.form c.args.bytes.now r in
-    subst P (sym c.lacking.ensures) (ends-missing c.args.form c.args.bytes.now c.in-Ok.read.0 c.in-Ok.read.1 c.in-Some.number c.in-Ok.ensures some)
+pub returns-else-count-bytes-clause-found : goal.returns-else-count-bytes-clause-found
+returns-else-count-bytes-clause-found c =
+    let read = read_all c.read-count.new.self c.args.form c.args.bytes.now c.read-count.result c.read-count.ensures.within c.if-count-bytes.false (c.read-count.ensures.read c.args.form [] c.new-part.ensures.nothing) in
+    let P : Form → Type 0 = λ f. IfOk c.message.result (λ m. Spells m c.args.bytes.now × (m.form ≡ f)) in
+    subst P (read_form c.read-count.new.self c.args.form c.args.bytes.now read) c.message.ensures.found
 
-pub returns-in-None-clause-found : goal.returns-in-None-clause-found
-returns-in-None-clause-found c =
-    let none : missing c.args.form c.in-Ok.read.0 ≡ None = ap (missing c.args.form) (sym c.as_slice.ensures) ∙ sym c.missing_number.ensures ∙ c.in-None.is in
-    let P : Content → Type 0 = λ m. Spells m c.args.bytes.now in
-    (subst P (sym c.message_of.ensures) (ends-spells c.args.form c.args.bytes.now c.in-Ok.read.0 c.in-Ok.read.1 c.in-Ok.ensures none), ap (λ (m : Content). m.form) c.message_of.ensures)
+pub returns-else-count-bytes-clause-refused : goal.returns-else-count-bytes-clause-refused
+returns-else-count-bytes-clause-refused c =
+    let read = read_all c.read-count.new.self c.args.form c.args.bytes.now c.read-count.result c.read-count.ensures.within c.if-count-bytes.false (c.read-count.ensures.read c.args.form [] c.new-part.ensures.nothing) in
+    let P : Form → Type 0 = λ f. IfErr c.message.result (λ e. Refuses f c.args.bytes.now e) in
+    subst P (read_form c.read-count.new.self c.args.form c.args.bytes.now read) c.message.ensures.refused
 
-pub returns-in-Err-clause-none_read : goal.returns-in-Err-clause-none_read
-returns-in-Err-clause-none_read c other =
-    refused_undecoded c.args.form c.args.bytes.now c.in-Err.refused (fails-refuses c.args.form c.args.bytes.now c.in-Err.refused c.in-Err.ensures) other
+pub returns-else-count-bytes-clause-read : goal.returns-else-count-bytes-clause-read
+returns-else-count-bytes-clause-read c =
+    let read = read_all c.read-count.new.self c.args.form c.args.bytes.now c.read-count.result c.read-count.ensures.within c.if-count-bytes.false (c.read-count.ensures.read c.args.form [] c.new-part.ensures.nothing) in
+    let P : Form → Type 0 = λ f. IfOk c.message.result (λ m. decoded f c.args.bytes.now ≡ Some m) in
+    subst P (read_form c.read-count.new.self c.args.form c.args.bytes.now read) c.message.ensures.read
 
-pub returns-in-Some-clause-none_read : goal.returns-in-Some-clause-none_read
-returns-in-Some-clause-none_read c other =
-    let some : missing c.args.form c.in-Ok.read.0 ≡ Some c.in-Some.number = ap (missing c.args.form) (sym c.as_slice.ensures) ∙ sym c.missing_number.ensures ∙ c.in-Some.is in
-    let P : Refused → Type 0 = λ r. Refuses c.args.form c.args.bytes.now r in
-    refused_undecoded c.args.form c.args.bytes.now c.lacking.result
-    (subst P (sym c.lacking.ensures) (ends-missing c.args.form c.args.bytes.now c.in-Ok.read.0 c.in-Ok.read.1 c.in-Some.number c.in-Ok.ensures some)) other
+pub returns-else-count-bytes-clause-none_read : goal.returns-else-count-bytes-clause-none_read
+returns-else-count-bytes-clause-none_read c =
+    let read = read_all c.read-count.new.self c.args.form c.args.bytes.now c.read-count.result c.read-count.ensures.within c.if-count-bytes.false (c.read-count.ensures.read c.args.form [] c.new-part.ensures.nothing) in
+    let P : Form → Type 0 = λ f. IfErr c.message.result (λ e. e ≢ NoMemory → decoded f c.args.bytes.now ≡ None) in
+    subst P (read_form c.read-count.new.self c.args.form c.args.bytes.now read) c.message.ensures.none_read
 
-pub returns-in-None-clause-read : goal.returns-in-None-clause-read
-returns-in-None-clause-read c =
-    let none : missing c.args.form c.in-Ok.read.0 ≡ None = ap (missing c.args.form) (sym c.as_slice.ensures) ∙ sym c.missing_number.ensures ∙ c.in-None.is in
-    let P : Content → Type 0 = λ m. decoded c.args.form c.args.bytes.now ≡ Some m in
-    subst P (sym c.message_of.ensures) (spelled_as c.args.form c.args.bytes.now _ (ends-spells c.args.form c.args.bytes.now c.in-Ok.read.0 c.in-Ok.read.1 c.in-Ok.ensures none) refl)
+pub message-requires : goal.message-requires
+message-requires c =
+    read_own c.read-count.new.self c.args.form c.args.bytes.now
+    (read_all c.read-count.new.self c.args.form c.args.bytes.now c.read-count.result c.read-count.ensures.within c.if-count-bytes.false (c.read-count.ensures.read c.args.form [] c.new-part.ensures.nothing))

@@ -1,38 +1,31 @@
-use Rattle.std.proofs.Common.{ℕ, ◌+◌, List, [], length, ap, subst, sym, arith}
-use Rattle.std.proofs.lemmas.List.{length-drop}
-use Rattle.faim_base.specs.declared.judgement.Refused.{Refused}
-use Rattle.faim_tags.specs.Reading.{RefusesTag, moved}
-use Rattle.faim_tags.specs.Steps.{InNumber, Inside, Completes, Fails}
-use Rattle.faim_tags.proofs.Meaning.{completes-found, completes-on, fails-refuses}
-use Rattle.faim_tags.proofs.Built.{elements_fail, byte_inside}
+use Rattle.std.proofs.Common.{[]}
+use Rattle.faim_tags.specs.Steps.{InNumber, tag_of}
+use Rattle.faim_tags.proofs.Meaning.{completes-found, fails-refuses, same_found}
+use Rattle.faim_tags.proofs.Built.{reached_completes, reached_fails}
 use Rattle.faim_tags.proofs.reading.read_tag_among.Goals as goal
 
-pub returns-in-Err-clause-refused : goal.returns-in-Err-clause-refused
-returns-in-Err-clause-refused c =
-    fails-refuses c.args.numbers.now c.args.bytes.now c.in-Err.refused (record { some = c.requires.some; listed = c.requires.listed }) c.in-Err.ensures
-
-pub overflow_add-result : goal.overflow_add-result
-overflow_add-result c = omega (arith, (c.in-Ok-read_elements.ensures []).within, ap length c.after.ensures, length-drop 6 c.args.bytes.now, c.in-Ok.ensures.0)
-
-pub returns-in-Ok-read_elements-clause-found : goal.returns-in-Ok-read_elements-clause-found
-returns-in-Ok-read_elements-clause-found c =
+pub returns-then-not-is_over-clause-refused : goal.returns-then-not-is_over-clause-refused
+returns-then-not-is_over-clause-refused c =
     let ns = c.args.numbers.now in
     let bytes = c.args.bytes.now in
-    let P : List ℕ → Type 0 = λ t. Completes ns (Inside c.in-Ok.no [] [] []) t c.in-Ok-read_elements.value c.in-Ok-read_elements.length in
-    let all = completes-on ns (InNumber []) (Inside c.in-Ok.no [] [] []) bytes 6 c.in-Ok-read_elements.value c.in-Ok-read_elements.length c.in-Ok.ensures.0 c.in-Ok.ensures.2 (subst P c.after.ensures (c.in-Ok-read_elements.ensures ns)) in
-    completes-found ns bytes c.in-Ok-read_elements.value (6 + c.in-Ok-read_elements.length) (record { some = c.requires.some; listed = c.requires.listed }) all
+    let r = c.read-part.ensures.read (InNumber []) (c.start.ensures ns) in
+    let fails = reached_fails ns (InNumber []) bytes c.read-part.result.1 c.read-part.result.0 c.after.result.now c.is_over.result c.stop_at.result r c.after.ensures (c.is_over.ensures ns r.last r.stands) c.if-not-is_over.true c.stop_at.ensures.byte c.stop_at.ensures.cut in
+    fails-refuses ns bytes c.stop_at.result (record { some = c.requires.some; listed = c.requires.listed }) fails
 
-pub moved-requires : goal.moved-requires
-moved-requires c k is =
-    let inside = byte_inside [] (Inside c.in-Ok.no [] [] []) c.after.result.now c.in-Err-read_elements.refused k (c.in-Err-read_elements.ensures []) is in
-    omega (arith, inside, ap length c.after.ensures, length-drop 6 c.args.bytes.now, c.in-Ok.ensures.0)
-
-pub returns-in-Err-read_elements-clause-refused : goal.returns-in-Err-read_elements-clause-refused
-returns-in-Err-read_elements-clause-refused c =
+pub cut_tag-requires : goal.cut_tag-requires
+cut_tag-requires c =
     let ns = c.args.numbers.now in
     let bytes = c.args.bytes.now in
-    let e = c.in-Err-read_elements.refused in
-    let P : List ℕ → Type 0 = λ t. Fails ns (Inside c.in-Ok.no [] [] []) t e in
-    let Q : Refused → Type 0 = λ r. RefusesTag ns bytes r in
-    let all = elements_fail ns (InNumber []) (Inside c.in-Ok.no [] [] []) bytes 6 e c.in-Ok.ensures.0 c.in-Ok.ensures.2 (subst P c.after.ensures (c.in-Err-read_elements.ensures ns)) in
-    subst Q (sym c.moved.ensures) (fails-refuses ns bytes (moved 6 e) (record { some = c.requires.some; listed = c.requires.listed }) all)
+    let r = c.read-part.ensures.read (InNumber []) (c.start.ensures ns) in
+    let all = reached_completes ns (InNumber []) bytes c.read-part.result.1 c.read-part.result.0 c.after.result.now c.is_over.result r c.after.ensures (c.is_over.ensures ns r.last r.stands) c.if-not-is_over.false in
+    record { numbers = ns; tag = tag_of r.last; size = c.read-part.result.1; found = completes-found ns bytes (tag_of r.last) c.read-part.result.1 (record { some = c.requires.some; listed = c.requires.listed }) all }
+
+pub returns-in-Ok-clause-found : goal.returns-in-Ok-clause-found
+returns-in-Ok-clause-found c =
+    let ns = c.args.numbers.now in
+    let bytes = c.args.bytes.now in
+    let r = c.read-part.ensures.read (InNumber []) (c.start.ensures ns) in
+    let all = reached_completes ns (InNumber []) bytes c.read-part.result.1 c.read-part.result.0 c.after.result.now c.is_over.result r c.after.ensures (c.is_over.ensures ns r.last r.stands) c.if-not-is_over.false in
+    let found = completes-found ns bytes (tag_of r.last) c.read-part.result.1 (record { some = c.requires.some; listed = c.requires.listed }) all in
+    let same = c.in-Ok.ensures ns (tag_of r.last) c.read-part.result.1 found in
+    same_found ns bytes (tag_of r.last) c.in-Ok.found.0 c.read-part.result.1 c.in-Ok.found.1 found same.0 same.1

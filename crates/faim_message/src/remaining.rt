@@ -1,0 +1,102 @@
+// The numbers that are left as a message is read.
+ghost use Rattle.std.specs.Prelude.{◌≡◌, ◌==◌, ◌+◌, ◌-◌, ◌<◌, ◌≤◌, ◌++◌, filter, not, true, length, take, drop, slice_index};
+ghost use Rattle.std.specs.List.{list_all};
+ghost use Rattle.faim_base.specs.Tags.{is_tag_number};
+ghost use Rattle.faim_message.specs.Forms.{permitted};
+ghost use Rattle.faim_message.specs.Rising.{rising};
+
+use crate::Form;
+use crate::allowed::permitted;
+use faim_base::before;
+use std::marker::Model;
+
+// The greatest count of numbers that a form permits.
+const MOST: usize = 33;
+
+/// The numbers of tags that a form permits and that no tag has had yet. It takes no memory.
+#[derive(Debug, Drop)]
+pub(crate) struct Remaining {
+    numbers: [u16; MOST],
+    count: usize,
+}
+
+impl Model for Remaining {
+    ghost use Rattle.std.specs.Prelude.{◌≡◌, ◌≤◌, List, ℕ, true, take};
+    ghost use Rattle.std.specs.List.{list_all};
+    ghost use Rattle.faim_base.specs.Tags.{is_tag_number};
+    ghost use Rattle.faim_message.specs.Rising.{rising};
+
+    ghost Value = { List ℕ };
+
+    ghost view = { λ r. take r.count r.numbers };
+
+    ghost invariant = { λ r. (r.count ≤ 33) × (list_all is_tag_number (take r.count r.numbers) ≡ true) × (rising (take r.count r.numbers) ≡ true) };
+}
+
+impl Remaining {
+    // All that the form permits.
+    pub(crate) fn new(form: Form) -> Remaining
+        ensures { result ≡ permitted form }
+    {
+        let all = permitted(form);
+        let mut numbers = [0; MOST];
+        numbers[..all.len()].copy_from_slice(all);
+        Remaining {
+            numbers,
+            count: all.len(),
+        }
+    }
+
+    pub(crate) fn as_slice(&self) -> &[u16]
+        ensures value { result.now ≡ self.now }
+        ensures listed { list_all is_tag_number result.now ≡ true }
+    {
+        &self.numbers[..self.count]
+    }
+
+    // Takes a number away.
+    pub(crate) fn take_away(&mut self, number: u16)
+        ensures { self.new ≡ filter (λ n. not (n == number)) self.old }
+    {
+        self.count = drop_number(&mut self.numbers, self.count, number);
+    }
+}
+
+// Takes a number out of those at the front, and answers how many are left.
+fn drop_number(numbers: &mut [u16], count: usize, number: u16) -> usize
+    requires within { count ≤ length numbers.old }
+    requires ordered { rising (take count numbers.old) ≡ true }
+    ensures few { result ≤ count }
+    ensures kept { take result numbers.new ≡ filter (λ n. not (n == number)) (take count numbers.old) }
+{
+    let place = place_of(&numbers[..count], number);
+    if count <= place {
+        return count;
+    }
+    close_gap(numbers, place, count);
+    count - 1
+}
+
+// Where a number stands, or the end where it is not there.
+fn place_of(numbers: &[u16], number: u16) -> usize
+    ensures within { result ≤ length numbers.now }
+    ensures here { result < length numbers.now → slice_index numbers.now result ≡ number }
+    ensures not_before { filter (λ n. not (n == number)) (take result numbers.now) ≡ take result numbers.now }
+{
+    let mut place = 0;
+    while place < numbers.len() && numbers[place] != number {
+        place += 1;
+    }
+    place
+}
+
+// Moves the numbers at the front that stand after a place down by one.
+fn close_gap(numbers: &mut [u16], place: usize, count: usize)
+    requires inside { place < count }
+    requires within { count ≤ length numbers.old }
+    ensures { take (count - 1) numbers.new ≡ take place numbers.old ++ drop (place + 1) (take count numbers.old) }
+{
+    for at in place..count - 1 {
+        numbers[at] = numbers[at + 1];
+    }
+}
