@@ -5,6 +5,7 @@ pub mod Image
 pub mod Log
 pub mod Memory
 pub mod Pending
+pub mod Readings
 pub mod Tears
 pub mod Told
 pub mod Turns

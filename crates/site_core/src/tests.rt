@@ -1,6 +1,6 @@
 // The forms in memory, at literal bytes.
-use crate::{MemSink, MemSite, MemSource, Sink, Site, Source, StopSite};
-use faim_base::{Bytes, Failed, NoMemory, Places};
+use crate::{Clock, MemClock, MemSink, MemSite, MemSource, Sink, Site, Source, StopSite};
+use faim_base::{Bytes, Failed, Moment, Moments, NoMemory, Places};
 use std::alloc::Global;
 
 fn bytes(alloc: Global, text: &[u8]) -> Result<Bytes, NoMemory> {
@@ -51,6 +51,21 @@ fn a_sink_keeps_what_was_written_and_fails_where_it_is_told(rt: HostRuntime) {
     assert_eq!(rt; sink.write(b"ment"), Ok(4));
     assert_eq!(rt; sink.bytes(), b"payment".as_slice());
     assert_eq!(rt; sink.lacks(), 0);
+}
+
+fn three_readings(alloc: Global, fails: &[usize]) -> Option<MemClock> {
+    let mut readings = Moments::new(alloc);
+    let minutes = [Moment::new(5)?, Moment::new(3)?, Moment::new(9)?];
+    readings.extend(&minutes).ok()?;
+    Some(MemClock::new(readings, places(alloc, fails).ok()?))
+}
+
+#[test]
+fn a_clock_gives_its_last_reading_again_and_uses_none_up_where_it_fails(rt: HostRuntime) {
+    let mut clock = three_readings(rt.alloc(), &[3]).expect(&rt, "memory");
+    for wanted in [Ok(5), Ok(3), Err(Failed), Ok(9), Ok(9), Ok(9)] {
+        assert_eq!(rt; clock.now().map(|moment| moment.get()), wanted);
+    }
 }
 
 // Three bytes are stable; two more stand after a gap, and one is written over as the site stops.
