@@ -1,0 +1,5 @@
+mod FramesSent
+mod OneBuffer
+mod RecordFirst
+mod SendLoop
+mod StopTable
