@@ -1,0 +1,9 @@
+mod AnswersOfLoads
+mod GroupsStored
+mod Groups
+mod Images
+mod ListsOfPayloads
+mod Made
+mod ReadThenSent
+mod Visiting
+mod Within

@@ -1,0 +1,9 @@
+pub mod Faults
+pub mod Loading
+pub mod Making
+pub mod Payloads
+pub mod Reading
+pub mod Ready
+pub mod Resuming
+pub mod Rules
+pub mod Storing
