@@ -73,11 +73,8 @@ impl Journaled for Rising {
             Some(endpoint) => endpoint,
             None => unreachable!(),
         };
-        outbox.push(&Frame {
-            kind: FrameKind::Output,
-            endpoint,
-            payload: &self.entries[..last.min(8)],
-        })
+        let newest = &self.entries[..last.min(8)];
+        outbox.push(&Frame::new(FrameKind::Output, endpoint, newest))
     }
 
     ghost read_once = { record {

@@ -4,3 +4,4 @@ pub mod Shapes
 pub mod Spelled
 pub mod Splitting
 pub mod Telling
+pub mod Left

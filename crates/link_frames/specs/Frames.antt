@@ -13,7 +13,7 @@ pub record Content : Type 0 where
   pub payload : List ℕ
 
 abbrev pub content_of : Frame → Content
-content_of f = record { kind = f.kind; endpoint = f.endpoint; payload = f.payload.now }
+content_of f = record { kind = f.kind; endpoint = f.name; payload = f.payload.now }
 
 -- how many bytes a payload has at most
 abbrev pub greatest_payload : ℕ

@@ -17,7 +17,7 @@ pub fn encode_frame(frame: &Frame<'_>, out: &mut Vec<u8>) -> Result<(), NoMemory
     out.reserve(HEAD + frame.payload.len())?;
     out.extend_from_slice(&((COUNTED + frame.payload.len()) as u32).to_be_bytes())?;
     out.push(frame.kind.byte())?;
-    out.extend_from_slice(&frame.endpoint.bytes())?;
+    out.extend_from_slice(&frame.name)?;
     out.extend_from_slice(frame.payload)?;
     Ok(())
 }

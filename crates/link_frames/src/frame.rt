@@ -1,5 +1,6 @@
 // What goes over a line (docs/FORMATS.md, "Frames").
-ghost use Rattle.std.specs.Prelude.{◌≡◌};
+ghost use Rattle.std.specs.Prelude.{◌≡◌, IsTrue};
+ghost use Rattle.faim_base.specs.Text.{is_endpoint};
 ghost use Rattle.link_frames.specs.Kinds.{kind_byte, kind_of};
 
 use faim_base::Endpoint;
@@ -60,6 +61,32 @@ impl FrameKind {
 #[derive(Clone, Copy, Debug)]
 pub struct Frame<'a> {
     pub kind: FrameKind,
-    pub endpoint: Endpoint,
+    pub(crate) name: [u8; 8],
     pub payload: &'a [u8],
+    ghost named: { IsTrue (is_endpoint name) },
+}
+
+impl<'a> Frame<'a> {
+    ghost use Rattle.link_frames.specs.Frames.{content_of};
+
+    /// A frame of these parts.
+    pub fn new(kind: FrameKind, endpoint: Endpoint, payload: &'a [u8]) -> Frame<'a>
+        ensures { content_of result ≡ record { kind = kind; endpoint = endpoint; payload = payload.now } }
+    {
+        Frame {
+            kind,
+            name: endpoint.bytes(),
+            payload,
+        }
+    }
+
+    /// The endpoint whose line it goes over.
+    pub fn endpoint(&self) -> Endpoint
+        ensures { result ≡ (content_of self.now).endpoint }
+    {
+        match Endpoint::read(&self.name) {
+            Some(endpoint) => endpoint,
+            None => unreachable!(),
+        }
+    }
 }

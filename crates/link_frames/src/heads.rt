@@ -94,7 +94,7 @@ pub(crate) fn frame_in(bytes: &[u8]) -> Option<Frame<'_>>
     let endpoint = Endpoint::read(&array_of(&bytes[5..HEAD])?)?;
     Some(Frame {
         kind,
-        endpoint,
+        name: endpoint.bytes(),
         payload: after(bytes, HEAD),
     })
 }

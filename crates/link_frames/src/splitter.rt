@@ -92,8 +92,10 @@ impl Splitter {
     }
 
     /// As `frame` and then `hand_out`, where a whole frame is held: the frame is lent without a copy, and counts as handed
-    /// out. None exactly where no whole frame is held, and then nothing changes.
+    /// out, so that nothing is held once it is given back. None exactly where no whole frame is held, and then nothing
+    /// changes.
     pub fn take(&mut self) -> Option<Frame<'_>>
+        ensures* hands_out { sem 𝓛 (HandsOut self.entry) }
         ensures there { IsSome result ↔ (is_whole self.old ≡ true) }
         ensures frame { IfSome result (λ f. (frame_bytes (content_of f) ≡ self.old) × IsFrame (content_of f)) }
     {

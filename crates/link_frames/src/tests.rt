@@ -1,6 +1,9 @@
 // What no clause says of frames: their bytes, and each answer once.
+ghost use Rattle.std.specs.Prelude.{◌≡◌, ◌++◌, OnOk};
+ghost use Rattle.link_frames.specs.Lending.{left_after};
+
 use crate::{Frame, FrameFault, FrameKind, Splitter, encode_frame};
-use faim_base::Endpoint;
+use faim_base::{Endpoint, NoMemory};
 use std::alloc::Global;
 use std::test::Fail;
 
@@ -26,11 +29,22 @@ fn ended(splitter: Splitter) -> Option<Result<(), FrameFault>> {
 fn note(splitter: &mut Splitter, seen: &mut Vec<u8>) -> Result<(), Fail> {
     if let Some(frame) = splitter.take() {
         seen.push(frame.kind.byte())?;
-        seen.extend_from_slice(&frame.endpoint.bytes())?;
+        seen.extend_from_slice(&frame.endpoint().bytes())?;
         seen.extend_from_slice(frame.payload)?;
         seen.push(b'|')?;
     }
     Ok(())
+}
+
+// Passes on the frame that is held, if there is one: the bytes that went on, joined with those that are held, stay the same.
+fn pass_on(splitter: &mut Splitter, out: &mut Vec<u8>) -> Result<(), NoMemory>
+    ensures left { splitter.new ≡ left_after splitter.old }
+    ensures joined { OnOk result (out.new.items ++ splitter.new ≡ out.old.items ++ splitter.old) }
+{
+    match splitter.take() {
+        Some(frame) => encode_frame(&frame, out),
+        None => Ok(()),
+    }
 }
 
 // Reads a piece frame by frame, and answers whether all of it was taken.
@@ -49,11 +63,8 @@ fn read_piece(splitter: &mut Splitter, piece: &[u8], seen: &mut Vec<u8>) -> Resu
 #[test]
 fn a_submission_is_framed_and_read_back(rt: HostRuntime) {
     let alloc = rt.alloc();
-    let frame = Frame {
-        kind: FrameKind::Submit,
-        endpoint: Endpoint::read(b"BANKA001").expect(&rt, "an endpoint"),
-        payload: &SUBMITTED[13..],
-    };
+    let endpoint = Endpoint::read(b"BANKA001").expect(&rt, "an endpoint");
+    let frame = Frame::new(FrameKind::Submit, endpoint, &SUBMITTED[13..]);
     let mut out = Vec::new(alloc);
     out.push(b'>').expect(&rt, "memory");
     encode_frame(&frame, &mut out).expect(&rt, "memory");
@@ -64,7 +75,7 @@ fn a_submission_is_framed_and_read_back(rt: HostRuntime) {
     match splitter.frame() {
         Some(read) => {
             assert_eq!(rt; read.kind, FrameKind::Submit);
-            assert_eq!(rt; read.endpoint, frame.endpoint);
+            assert_eq!(rt; read.endpoint(), frame.endpoint());
             assert_eq!(rt; read.payload, frame.payload);
         }
         None => assert!(rt; false),
@@ -166,6 +177,20 @@ fn a_frame_is_handed_out_once(rt: HostRuntime) -> Result<(), Fail> {
 }
 
 #[test]
+fn a_frame_is_passed_on_once(rt: HostRuntime) {
+    let mut splitter = Splitter::new(rt.alloc()).expect(&rt, "memory");
+    let mut out = Vec::new(rt.alloc());
+    assert_eq!(rt; splitter.feed(&RUN[..17]), Ok(17));
+    assert!(rt; pass_on(&mut splitter, &mut out).is_ok());
+    assert!(rt; out.is_empty());
+    assert_eq!(rt; splitter.feed(&RUN[17..]), Ok(1));
+    assert!(rt; pass_on(&mut splitter, &mut out).is_ok());
+    assert!(rt; pass_on(&mut splitter, &mut out).is_ok());
+    assert_eq!(rt; out.as_slice(), &RUN[..18]);
+    assert_eq!(rt; ended(splitter), Some(Ok(())));
+}
+
+#[test]
 fn frames_are_the_same_however_the_bytes_are_cut_in_three(rt: HostRuntime) -> Result<(), Fail> {
     for second in 0..=RUN.len() {
         for first in 0..=second {
@@ -188,11 +213,8 @@ fn frames_are_the_same_however_the_bytes_are_cut_in_three(rt: HostRuntime) -> Re
 #[test]
 fn the_greatest_frame_is_taken(rt: HostRuntime) {
     let alloc: Global = rt.alloc();
-    let frame = Frame {
-        kind: FrameKind::Output,
-        endpoint: Endpoint::read(b"BANKB001").expect(&rt, "an endpoint"),
-        payload: &[b'x'; 8_192],
-    };
+    let endpoint = Endpoint::read(b"BANKB001").expect(&rt, "an endpoint");
+    let frame = Frame::new(FrameKind::Output, endpoint, &[b'x'; 8_192]);
     let mut out = Vec::new(alloc);
     encode_frame(&frame, &mut out).expect(&rt, "memory");
     assert_eq!(rt; out.len(), 8_205);

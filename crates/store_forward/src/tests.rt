@@ -14,16 +14,8 @@ use torn_journal::{Visit, VisitFault, create, frame_payload, resume};
 fn two_frames(alloc: Global) -> Option<Outbox> {
     let endpoint = Endpoint::read(b"BANKA001")?;
     let mut outbox = Outbox::new(alloc);
-    let answer = Frame {
-        kind: FrameKind::Ack,
-        endpoint,
-        payload: b"ok",
-    };
-    let output = Frame {
-        kind: FrameKind::Output,
-        endpoint,
-        payload: b"",
-    };
+    let answer = Frame::new(FrameKind::Ack, endpoint, b"ok");
+    let output = Frame::new(FrameKind::Output, endpoint, b"");
     outbox.push(&answer).ok()?;
     outbox.push(&output).ok()?;
     Some(outbox)
@@ -64,11 +56,8 @@ fn an_outbox_keeps_frames_in_order_and_forgets_them(rt: HostRuntime) {
     outbox.clear();
     assert!(rt; outbox.is_empty());
     assert!(rt; outbox.get(0).is_none());
-    let frame = Frame {
-        kind: FrameKind::Tick,
-        endpoint: Endpoint::read(b"BANKB001").expect(&rt, "an endpoint"),
-        payload: b"",
-    };
+    let endpoint = Endpoint::read(b"BANKB001").expect(&rt, "an endpoint");
+    let frame = Frame::new(FrameKind::Tick, endpoint, b"");
     outbox.push(&frame).expect(&rt, "memory");
     assert_eq!(rt; outbox.len(), 1);
     assert!(rt; is_at(&outbox, 0, b"\0\0\0\x09\x07BANKB001"));

@@ -18,6 +18,6 @@ returns-clause-frame c =
     (cases_lt 13 (length c.args.bytes.now)) in
     let eight = (cond_some (length (take 8 (drop 5 c.args.bytes.now)) == 8) (take 8 (drop 5 c.args.bytes.now)) c.in_ok-array_of.field-0 (sym c.in_ok-array_of.ensures)).1 in
     let name = (cond_some (is_endpoint c.in_ok-array_of.field-0) c.in_ok-array_of.field-0 c.in_ok-endpoint.endpoint (sym c.in_ok-endpoint.ensures)).1 in
-    found c.args.bytes.now c.in_ok-kind.kind c.in_ok-endpoint.endpoint c.after.result.now
-    (record { kind_is = c.in_ok-kind.ensures; endpoint_is = sym name ∙ sym eight; payload_is = c.after.ensures })
+    found c.args.bytes.now c.in_ok-kind.kind c.bytes.result c.after.result.now
+    (record { kind_is = c.in_ok-kind.ensures; endpoint_is = c.bytes.ensures.value ∙ (sym name ∙ sym eight); payload_is = c.after.ensures })
     w.four w.none exact (λ i. omega (arith, c.type_inv.bytes i))
