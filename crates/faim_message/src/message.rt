@@ -134,9 +134,7 @@ fn set_byte(tag: &mut TagValue, place: usize, byte: u8)
     requires class { slice_index (classes tag.old.no) place ≡ 116 }
     ensures { tag.new ≡ record tag.old { fixed = slice_set tag.old.fixed place byte } }
 {
-    if let Some(place) = tag.fixed.get_mut(place) {
-        *place = byte;
-    }
+    tag.fixed.set(place, byte);
 }
 
 // The first tag with this number.

@@ -9,8 +9,8 @@ ghost use Rattle.faim_message.specs.Numbering.{imad_tag, put_after, numbered};
 
 use crate::message::{message_of, parts_of};
 use crate::{Form, Message};
-use faim_base::{Bytes, Imad, NoMemory, TagNo};
-use faim_tags::{Stars, TagValue};
+use faim_base::{Imad, NoMemory, TagNo};
+use faim_tags::{ShortBytes, Stars, TagValue};
 use std::alloc::Global;
 
 /// The submission that the draft is with this identifier: a tag 1520 stands right after the tag 1510, and all else is
@@ -31,11 +31,9 @@ fn imad_tag(alloc: Global, imad: &Imad) -> Result<TagValue, NoMemory>
     ensures value { IfOk result (λ v. v ≡ imad_tag (imad_text imad.now)) }
     ensures sound { IfOk result IsTag }
 {
-    let mut fixed = Bytes::new(alloc);
-    fixed.extend(&imad_text(imad))?;
     Ok(TagValue {
         no: TagNo::new(1520).unwrap(),
-        fixed,
+        fixed: ShortBytes::copied(&imad_text(imad))?,
         stars: Stars::new(alloc),
         closed: false,
     })

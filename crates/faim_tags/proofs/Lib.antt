@@ -2,6 +2,7 @@ mod Examples
 pub mod Facts
 pub mod Runs
 pub mod Counts
+pub mod LaneLemmas
 pub mod Goods
 pub mod Ends
 pub mod Greedy

@@ -3,8 +3,9 @@ ghost use Rattle.std.specs.Prelude.{◌≡◌, ◌+◌, ◌≤◌, ◌<◌, ◌^
 ghost use Rattle.faim_base.specs.Text.{is_text_byte};
 ghost use Rattle.faim_tags.specs.Layouts.{each_class};
 ghost use Rattle.faim_tags.specs.Reading.{goes_on};
-ghost use Rattle.faim_tags.specs.Parts.{run_length, text_length};
+ghost use Rattle.faim_tags.specs.Parts.{digits_length, run_length, text_length};
 
+use crate::lanes::{LANES, digits_in_lanes, text_in_lanes};
 use faim_base::{after, before, is_digit, is_text_byte};
 
 // A byte that may stand in a star element or end it.
@@ -28,7 +29,18 @@ pub(crate) fn run_of(class: u8, most: u8, bytes: &[u8]) -> usize
 
 // How many digits stand at the front, up to a number of them.
 fn run_of_digits(most: usize, bytes: &[u8]) -> usize
-    ensures { result ≡ run_length (replicate most 110) bytes.now }
+    ensures { result ≡ digits_length most bytes.now }
+{
+    if most <= LANES && LANES <= bytes.len() {
+        most.min(digits_in_lanes(bytes, 0))
+    } else {
+        digits_one_by_one(most, bytes)
+    }
+}
+
+// As `run_of_digits`, byte by byte.
+fn digits_one_by_one(most: usize, bytes: &[u8]) -> usize
+    ensures { result ≡ digits_length most bytes.now }
 {
     let mut count = 0;
     for b in before(bytes, most.min(bytes.len())) {
@@ -42,6 +54,25 @@ fn run_of_digits(most: usize, bytes: &[u8]) -> usize
 
 // How many text bytes stand at the front, up to a number of them.
 pub(crate) fn run_of_text(most: usize, bytes: &[u8]) -> usize
+    ensures { result ≡ text_length most bytes.now }
+{
+    let mut count = 0;
+    while count < most && LANES <= bytes.len() - count {
+        let run = text_in_lanes(bytes, count);
+        if run < LANES {
+            return most.min(count + run);
+        }
+        count += LANES;
+    }
+    if most <= count {
+        most
+    } else {
+        count + text_one_by_one(most - count, after(bytes, count))
+    }
+}
+
+// As `run_of_text`, byte by byte.
+fn text_one_by_one(most: usize, bytes: &[u8]) -> usize
     ensures { result ≡ text_length most bytes.now }
 {
     let mut count = 0;

@@ -8,8 +8,7 @@ ghost use Rattle.faim_tags.specs.Cutting.{TagInFront, StarsCut};
 
 use crate::classes::{is_star, length_of_fixed, run_of_text};
 use crate::number::number_in;
-use crate::value::copied;
-use crate::{Stars, TagValue, layout};
+use crate::{ShortBytes, Stars, TagValue, layout};
 use faim_base::{NoMemory, TagNo, after, before};
 use std::alloc::Global;
 
@@ -48,7 +47,7 @@ fn cut_elements(alloc: Global, no: TagNo, bytes: &[u8]) -> Result<(TagValue, usi
         Err(NoMemory) => return Err(NoMemory),
     };
     let part = before(after(rest, taken), count);
-    match built(alloc, no, before(bytes, fixed), stars, part) {
+    match built(no, before(bytes, fixed), stars, part) {
         Ok(value) => Ok((value, fixed + taken + count)),
         Err(NoMemory) => Err(NoMemory),
     }
@@ -67,24 +66,18 @@ fn cut_stars(alloc: Global, maxima: &[u8], bytes: &[u8]) -> Result<(Stars, usize
         if !is_star(rest, count) {
             return Ok((stars, place, count));
         }
-        stars.push(copied(alloc, before(rest, count))?)?;
+        stars.push(ShortBytes::copied(before(rest, count))?)?;
         place += count + 1;
     }
     Ok((stars, place, 0))
 }
 
 // The tag of these parts, of which the last star element has no star, if it has a byte.
-fn built(
-    alloc: Global,
-    no: TagNo,
-    fixed: &[u8],
-    stars: Stars,
-    part: &[u8],
-) -> Result<TagValue, NoMemory>
+fn built(no: TagNo, fixed: &[u8], stars: Stars, part: &[u8]) -> Result<TagValue, NoMemory>
     requires { IsTag (tag_of (Inside no fixed.now stars part.now)) }
     ensures { IfOk result (λ v. v ≡ tag_of (Inside no fixed.now stars part.now)) }
 {
-    let fixed = copied(alloc, fixed)?;
+    let fixed = ShortBytes::copied(fixed)?;
     if part.is_empty() {
         let closed = !stars.as_slice().is_empty();
         return Ok(TagValue {
@@ -95,7 +88,7 @@ fn built(
         });
     }
     let mut stars = stars;
-    stars.push(copied(alloc, part)?)?;
+    stars.push(ShortBytes::copied(part)?)?;
     Ok(TagValue {
         no,
         fixed,

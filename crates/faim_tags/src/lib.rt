@@ -3,11 +3,13 @@
 
 mod classes;
 mod cutting;
+mod lanes;
 mod laws;
 mod lookup;
 mod number;
 mod partial;
 mod reading;
+mod short_bytes;
 mod table;
 mod value;
 mod writing;
@@ -20,6 +22,7 @@ pub use laws::{
 pub use lookup::layout;
 pub use partial::TagPart;
 pub use reading::{read_tag, read_tag_among};
+pub use short_bytes::ShortBytes;
 pub use table::Layout;
 pub use value::{Stars, TagValue};
 pub use writing::spell;

@@ -1,19 +1,17 @@
 // One tag as a value.
-ghost use Rattle.std.specs.Prelude.{◌≡◌, IfOk};
-
-use faim_base::{Bytes, Items, NoMemory, TagNo};
-use std::alloc::Global;
+use crate::ShortBytes;
+use faim_base::{Items, TagNo};
 use std::marker::Model;
 
 /// A list of star elements, each without its star.
-pub type Stars = Items<Bytes>;
+pub type Stars = Items<ShortBytes>;
 
 /// A tag of the format. `fixed` holds its fixed elements, joined; `stars` its star elements, each without its star;
 /// `closed` tells that the last star element has its star. Its elements are always those of its number.
 #[derive(Debug, Drop)]
 pub struct TagValue {
     pub no: TagNo,
-    pub fixed: Bytes,
+    pub fixed: ShortBytes,
     pub stars: Stars,
     pub closed: bool,
 }
@@ -26,13 +24,4 @@ impl Model for TagValue {
     ghost view = { λ v. record { no = v.no; fixed = v.fixed; stars = v.stars; closed = v.closed } };
 
     ghost invariant = { λ v. IsTag (record { no = v.no; fixed = v.fixed; stars = v.stars; closed = v.closed }) };
-}
-
-// The bytes, as a list of their own.
-pub(crate) fn copied(alloc: Global, bytes: &[u8]) -> Result<Bytes, NoMemory>
-    ensures { IfOk result (λ copy. copy ≡ bytes.now) }
-{
-    let mut copy = Bytes::new(alloc);
-    copy.extend(bytes)?;
-    Ok(copy)
 }

@@ -2,9 +2,9 @@
 ghost use Rattle.std.specs.Prelude.{◌≡◌, ◌++◌, ℕ, List, take, length, OnOk, OnErr};
 ghost use Rattle.faim_tags.specs.Spelling.{spelling, starred, braced, SpellsTag, IsTag};
 
-use crate::TagValue;
 use crate::number::braced;
-use faim_base::{Bytes, NoMemory};
+use crate::{ShortBytes, TagValue};
+use faim_base::NoMemory;
 
 /// Appends the one spelling of the tag. `NoMemory` leaves `out` as it was.
 pub fn spell(value: &TagValue, out: &mut Vec<u8>) -> Result<(), NoMemory>
@@ -34,7 +34,7 @@ fn append_tag(value: &TagValue, out: &mut Vec<u8>) -> Result<(), NoMemory>
 }
 
 // Appends the star elements, each with its star, the last only where it is closed.
-fn append_stars(stars: &[Bytes], closed: bool, out: &mut Vec<u8>) -> Result<(), NoMemory>
+fn append_stars(stars: &[ShortBytes], closed: bool, out: &mut Vec<u8>) -> Result<(), NoMemory>
     ensures ok { OnOk result (out.new.items ≡ out.old.items ++ starred stars.now closed) }
     ensures kept { take (length out.old.items) out.new.items ≡ out.old.items }
 {

@@ -1,16 +1,9 @@
-use Rattle.std.proofs.Common.{sym, ◌∙◌, arith}
-use Rattle.faim_tags.proofs.Counts.{run_more, run_stop, run_over}
+use Rattle.std.proofs.Common.{ℕ, min, ap, ◌∙◌, sym, arith}
+use Rattle.faim_tags.proofs.LaneLemmas.{run_fewer}
 use Rattle.faim_tags.proofs.classes.run_of_digits.Goals as goal
 
-pub returns-then-not-is_digit : goal.returns-then-not-is_digit
-returns-then-not-is_digit c =
-    omega (arith, run_stop 110 c.args.most c.min.result c.loop-b.b-index c.args.bytes.now c.before-b-items.result.now c.before-b-items.ensures c.min.ensures c.loop-b-test.true (sym c.is_digit.ensures ∙ c.if-not-is_digit.true))
-
-pub loop-b-preserved : goal.loop-b-preserved
-loop-b-preserved c = record {
-  counted = omega arith;
-  on = omega (arith, run_more 110 c.args.most c.min.result c.loop-b.b-index c.args.bytes.now c.before-b-items.result.now c.before-b-items.ensures c.min.ensures c.loop-b-test.true (sym c.is_digit.ensures ∙ c.if-not-is_digit.false));
-}
-
-pub returns : goal.returns
-returns c = omega (arith, run_over 110 c.args.most c.min.result c.loop-b.b-index c.args.bytes.now c.before-b-items.result.now c.before-b-items.ensures c.min.ensures (omega arith))
+pub returns-then-bytes-ge-LANES : goal.returns-then-bytes-ge-LANES
+returns-then-bytes-ge-LANES c =
+    let some = c.digits_in_lanes.ensures in
+    let fewer = run_fewer 110 c.args.most 16 c.args.bytes.now (omega arith) in
+    c.min.ensures ∙ ap (λ (k : ℕ). min c.args.most k) some ∙ sym fewer

@@ -1,9 +1,12 @@
-use Rattle.std.proofs.Common.{◌≡◌, ◌+◌, ◌-◌, drop}
+use Rattle.std.proofs.Common.{◌≡◌, ◌≤◌, ◌-◌, length}
 use Rattle.faim_tags.specs.Parts.{text_length}
 use Rattle.faim_tags.proofs.classes.run_of_text.Given as goal
 
-abbrev pub invariant-loop-b : goal.invariant-loop-b
-invariant-loop-b l = record {
-  counted : l.count ≡ l.b-index;
-  on : l.count + text_length (l.most - l.b-index) (drop l.b-index l.bytes) ≡ text_length l.most l.bytes;
+abbrev pub invariant-loop-count : goal.invariant-loop-count
+invariant-loop-count l = record {
+  within : l.count ≤ length l.bytes;
+  all : text_length l.count l.bytes ≡ l.count;
 }
+
+abbrev pub decreases-loop-count : goal.decreases-loop-count
+decreases-loop-count l = length l.bytes - l.count

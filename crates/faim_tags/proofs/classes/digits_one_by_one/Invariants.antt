@@ -1,6 +1,6 @@
 use Rattle.std.proofs.Common.{◌≡◌, ◌+◌, ◌-◌, drop, replicate}
 use Rattle.faim_tags.specs.Parts.{run_length}
-use Rattle.faim_tags.proofs.classes.run_of_digits.Given as goal
+use Rattle.faim_tags.proofs.classes.digits_one_by_one.Given as goal
 
 abbrev pub invariant-loop-b : goal.invariant-loop-b
 invariant-loop-b l = record {
