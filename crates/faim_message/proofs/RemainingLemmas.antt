@@ -1,11 +1,13 @@
 -- Taking a number away from those that are left, in place.
-use Rattle.std.proofs.Common.{◌≡◌, ℕ, zero, suc, ◌+◌, ◌-◌, ◌<◌, ◌≤◌, Bool, true, false, not, cond, ltb, append_assoc, List, [], ◌∷◌, ◌++◌, length, get_or, set, take, drop, refl, sym, ap, subst, ◌∙◌, arith}
+use Rattle.std.proofs.Common.{◌≡◌, ℕ, zero, suc, ◌+◌, ◌-◌, ◌<◌, ◌≤◌, Bool, true, false, not, cond, ltb, List, [], ◌∷◌, ◌++◌, length, get_or, take, drop, refl, sym, ap, subst, ◌∙◌, arith}
 use Rattle.std.specs.Prelude.{filter, ◌==◌}
 use Rattle.std.specs.List.{list_all}
 use Rattle.std.proofs.lemmas.Bool.{and_parts, and_from, ltb-true, ne_eqb, eq-eqb}
-use Rattle.std.proofs.lemmas.List.{drop_more, take_more, take_more_set, drop-set-lt, drop-drop, drop-take, get_or-drop, length-set, length-drop, take-append-drop}
+use Rattle.std.proofs.lemmas.List.{drop_more, drop-drop, drop-take, get_or-drop, take-append-drop}
 use Rattle.std.proofs.lemmas.List.Elements.{filter-append}
+use Rattle.std.proofs.lemmas.Slice.{between-put_mid}
 use Rattle.std.proofs.Math.Seq.{take-append_seam}
+use borrow.Rule.Slice.PartMut.{put_mid}
 use Rattle.faim_base.specs.Tags.{is_tag_number}
 use Rattle.faim_message.specs.declared.form.Form.{Form}
 use Rattle.faim_message.specs.declared.form.Form.TheVariants.{Input, Draft, Output, Ack}
@@ -29,10 +31,12 @@ list_all-filter p q (x ∷ xs) e =
     ]
 
 -- all that a form permits, at the front
-pub front_is : (all new rest : List ℕ) (form : Form) → new ≡ all → all ≡ permitted form → take (length all) (new ++ rest) ≡ permitted form
-front_is all new rest form same is = ap (λ (l : List ℕ). take (length all) (l ++ rest)) same ∙ take-append_seam all rest ∙ is
+pub front_is : (all new rest : List ℕ) (form : Form) → new ≡ all → all ≡ permitted form → take (length all - 0) (new ++ rest) ≡ permitted form
+front_is all new rest form same is =
+    let whole : length all - 0 ≡ length all = omega arith in
+    ap (λ (k : ℕ). take k (new ++ rest)) whole ∙ ap (λ (l : List ℕ). take (length all) (l ++ rest)) same ∙ take-append_seam all rest ∙ is
 
-pub front_listed : (all new rest : List ℕ) (form : Form) → new ≡ all → all ≡ permitted form → list_all is_tag_number (take (length all) (new ++ rest)) ≡ true
+pub front_listed : (all new rest : List ℕ) (form : Form) → new ≡ all → all ≡ permitted form → list_all is_tag_number (take (length all - 0) (new ++ rest)) ≡ true
 front_listed all new rest form same is =
     let P : List ℕ → Type 0 = λ l. list_all is_tag_number l ≡ true in
     subst P (sym (front_is all new rest form same is)) (permitted_listed form)
@@ -44,7 +48,7 @@ permitted_rising Draft = refl
 permitted_rising Output = refl
 permitted_rising Ack = refl
 
-pub front_rising : (all new rest : List ℕ) (form : Form) → new ≡ all → all ≡ permitted form → rising (take (length all) (new ++ rest)) ≡ true
+pub front_rising : (all new rest : List ℕ) (form : Form) → new ≡ all → all ≡ permitted form → rising (take (length all - 0) (new ++ rest)) ≡ true
 front_rising all new rest form same is =
     let P : List ℕ → Type 0 = λ l. rising l ≡ true in
     subst P (sym (front_is all new rest form same is)) (permitted_rising form)
@@ -86,35 +90,17 @@ one_out xs place x lt up here before =
     ∙ ap (λ (l : List ℕ). take place xs ++ filter p l) at
     ∙ ap (λ (l : List ℕ). take place xs ++ l) (gone ∙ above_kept x more above))
 
--- the numbers after a place are moved down as far as another place
-pub record Moved (old new : List ℕ) (place count at : ℕ) : Type 0 where
-  pub from : place ≤ at
-  pub within : at + 1 ≤ count
+-- the numbers before a place are moved up as far down as another place
+pub record Moved (old new : List ℕ) (place at : ℕ) : Type 0 where
+  pub upto : at ≤ place
   pub size : length new ≡ length old
-  pub front : take at new ≡ take place old ++ take (at - place) (drop (place + 1) old)
-  pub rest : drop (at + 1) new ≡ drop (at + 1) old
+  pub front : take (at + 1) new ≡ take (at + 1) old
+  pub rest : drop (at + 1) new ≡ drop at (take place old) ++ drop (place + 1) old
 
-pub one_moved : (old new : List ℕ) (place count at : ℕ) → at + 1 < count → count ≤ length old → Moved old new place count at → Moved old (set new at (get_or new (at + 1) 0)) place count (at + 1)
-one_moved old new place count at lt le m =
-    let v = get_or new (at + 1) 0 in
-    let k = at - place in
-    let gap = drop (place + 1) old in
-    let next : (at + 1) - place ≡ k + 1 = omega (arith, m.from) in
-    let there : place + 1 + k ≡ at + 1 = omega (arith, m.from) in
-    let v_is : get_or gap k 0 ≡ v = get_or-drop (place + 1) old k 0 ∙ ap (λ (j : ℕ). get_or old j 0) there ∙ sym (same_at old new (at + 1) m.rest) in
-    let one : take (k + 1) gap ≡ take k gap ++ v ∷ [] = take_more gap k 0 (omega (arith, length-drop (place + 1) old, m.from)) ∙ ap (λ (x : ℕ). take k gap ++ x ∷ []) v_is in
-    record {
-      from = omega (arith, m.from);
-      within = omega arith;
-      size = length-set new at v ∙ m.size;
-      front = take_more_set new at v (omega (arith, m.size)) ∙ ap (λ (l : List ℕ). l ++ v ∷ []) m.front ∙ append_assoc (take place old) (take k gap) (v ∷ [])
-          ∙ ap (λ (l : List ℕ). take place old ++ l) (sym one) ∙ ap (λ (j : ℕ). take place old ++ take j gap) (sym next);
-      rest = drop-set-lt (at + 1 + 1) new at v (omega arith) ∙ sym (drop-drop 1 (at + 1) new) ∙ ap (drop 1) m.rest ∙ drop-drop 1 (at + 1) old;
-    }
-
-pub all_moved : (old new : List ℕ) (place count at : ℕ) → count ≤ at + 1 → Moved old new place count at → take (count - 1) new ≡ take place old ++ drop (place + 1) (take count old)
-all_moved old new place count at le m =
-    let same : count - 1 ≡ at = omega (arith, m.within) in
-    let whole : count ≡ place + 1 + (at - place) = omega (arith, m.within, m.from) in
-    ap (λ (k : ℕ). take k new) same ∙ m.front
-    ∙ ap (λ (l : List ℕ). take place old ++ l) (sym (ap (λ (k : ℕ). drop (place + 1) (take k old)) whole ∙ drop-take (place + 1) (at - place) old))
+-- what is left of a part of numbers that was written, without the first ones
+pub part_left : (numbers part : List ℕ) (start end gone : ℕ) → start ≤ length numbers → length part ≡ end - start → gone ≤ end - start → take (end - (start + gone)) (drop (start + gone) (put_mid start (end - start) numbers part)) ≡ drop gone part
+part_left numbers part start end gone le size few =
+    let new = put_mid start (end - start) numbers part in
+    let whole : gone + (end - (start + gone)) ≡ end - start = omega (arith, few) in
+    ap (take (end - (start + gone))) (sym (drop-drop gone start new)) ∙ sym (drop-take gone (end - (start + gone)) (drop start new))
+    ∙ ap (λ (k : ℕ). drop gone (take k (drop start new))) whole ∙ ap (drop gone) (between-put_mid start (end - start) numbers part end le size)

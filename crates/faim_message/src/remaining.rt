@@ -7,7 +7,6 @@ ghost use Rattle.faim_message.specs.Rising.{rising};
 
 use crate::Form;
 use crate::allowed::permitted;
-use faim_base::before;
 use std::marker::Model;
 
 // The greatest count of numbers that a form permits.
@@ -16,21 +15,23 @@ const MOST: usize = 33;
 /// The numbers of tags that a form permits and that no tag has had yet. It takes no memory.
 #[derive(Debug, Drop)]
 pub(crate) struct Remaining {
+    // The numbers are those from `start` up to `end`.
     numbers: [u16; MOST],
-    count: usize,
+    start: usize,
+    end: usize,
 }
 
 impl Model for Remaining {
-    ghost use Rattle.std.specs.Prelude.{◌≡◌, ◌≤◌, List, ℕ, true, take};
+    ghost use Rattle.std.specs.Prelude.{◌≡◌, ◌≤◌, ◌-◌, List, ℕ, true, take, drop};
     ghost use Rattle.std.specs.List.{list_all};
     ghost use Rattle.faim_base.specs.Tags.{is_tag_number};
     ghost use Rattle.faim_message.specs.Rising.{rising};
 
     ghost Value = { List ℕ };
 
-    ghost view = { λ r. take r.count r.numbers };
+    ghost view = { λ r. take (r.end - r.start) (drop r.start r.numbers) };
 
-    ghost invariant = { λ r. (r.count ≤ 33) × (list_all is_tag_number (take r.count r.numbers) ≡ true) × (rising (take r.count r.numbers) ≡ true) };
+    ghost invariant = { λ r. (r.start ≤ r.end) × (r.end ≤ 33) × (list_all is_tag_number (take (r.end - r.start) (drop r.start r.numbers)) ≡ true) × (rising (take (r.end - r.start) (drop r.start r.numbers)) ≡ true) };
 }
 
 impl Remaining {
@@ -43,7 +44,8 @@ impl Remaining {
         numbers[..all.len()].copy_from_slice(all);
         Remaining {
             numbers,
-            count: all.len(),
+            start: 0,
+            end: all.len(),
         }
     }
 
@@ -51,30 +53,29 @@ impl Remaining {
         ensures value { result.now ≡ self.now }
         ensures listed { list_all is_tag_number result.now ≡ true }
     {
-        &self.numbers[..self.count]
+        &self.numbers[self.start..self.end]
     }
 
     // Takes a number away.
     pub(crate) fn take_away(&mut self, number: u16)
         ensures { self.new ≡ filter (λ n. not (n == number)) self.old }
     {
-        self.count = drop_number(&mut self.numbers, self.count, number);
+        self.start += drop_number(&mut self.numbers[self.start..self.end], number);
     }
 }
 
-// Takes a number out of those at the front, and answers how many are left.
-fn drop_number(numbers: &mut [u16], count: usize, number: u16) -> usize
-    requires within { count ≤ length numbers.old }
-    requires ordered { rising (take count numbers.old) ≡ true }
-    ensures few { result ≤ count }
-    ensures kept { take result numbers.new ≡ filter (λ n. not (n == number)) (take count numbers.old) }
+// Takes a number out, and answers how many numbers at the front are none of those that are left.
+fn drop_number(numbers: &mut [u16], number: u16) -> usize
+    requires ordered { rising numbers.old ≡ true }
+    ensures few { result ≤ length numbers.old }
+    ensures kept { drop result numbers.new ≡ filter (λ n. not (n == number)) numbers.old }
 {
-    let place = place_of(&numbers[..count], number);
-    if count <= place {
-        return count;
+    let place = place_of(numbers, number);
+    if numbers.len() <= place {
+        return 0;
     }
-    close_gap(numbers, place, count);
-    count - 1
+    close_gap(numbers, place);
+    1
 }
 
 // Where a number stands, or the end where it is not there.
@@ -90,13 +91,14 @@ fn place_of(numbers: &[u16], number: u16) -> usize
     place
 }
 
-// Moves the numbers at the front that stand after a place down by one.
-fn close_gap(numbers: &mut [u16], place: usize, count: usize)
-    requires inside { place < count }
-    requires within { count ≤ length numbers.old }
-    ensures { take (count - 1) numbers.new ≡ take place numbers.old ++ drop (place + 1) (take count numbers.old) }
+// Moves the numbers that stand before a place up by one.
+fn close_gap(numbers: &mut [u16], place: usize)
+    requires { place < length numbers.old }
+    ensures { drop 1 numbers.new ≡ take place numbers.old ++ drop (place + 1) numbers.old }
 {
-    for at in place..count - 1 {
-        numbers[at] = numbers[at + 1];
+    let mut at = place;
+    while 0 < at {
+        numbers[at] = numbers[at - 1];
+        at -= 1;
     }
 }

@@ -126,15 +126,3 @@ pub(crate) fn run_from(elements: &[(u8, u8)], fixed: usize, bytes: &[u8]) -> (us
     }
     (count, true)
 }
-
-// How many bytes the fixed elements have.
-pub(crate) fn length_of_fixed(elements: &[(u8, u8)]) -> usize
-    requires { length elements.now ≤ 100 }
-    ensures { result ≡ length (each_class elements.now) }
-{
-    let mut total = 0;
-    for (_, length) in elements {
-        total += usize::from(*length);
-    }
-    total
-}

@@ -6,9 +6,10 @@ ghost use Rattle.faim_tags.specs.Reading.{FoundTag};
 ghost use Rattle.faim_tags.specs.Steps.{Inside, tag_of, Completes};
 ghost use Rattle.faim_tags.specs.Cutting.{TagInFront, StarsCut};
 
-use crate::classes::{is_star, length_of_fixed, run_of_text};
+use crate::classes::{is_star, run_of_text};
+use crate::lookup::sized_layout;
 use crate::number::number_in;
-use crate::{ShortBytes, Stars, TagValue, layout};
+use crate::{ShortBytes, Stars, TagValue};
 use faim_base::{NoMemory, TagNo, after, before};
 use std::alloc::Global;
 
@@ -39,8 +40,8 @@ fn cut_elements(alloc: Global, no: TagNo, bytes: &[u8]) -> Result<(TagValue, usi
     requires there { (ns : List ℕ) × ((v : Tag) × ((n : ℕ) × Completes ns (Inside no [] [] []) bytes.now v n)) }
     ensures { IfOk result (λ r. (ns : List ℕ) (v : Tag) (n : ℕ) → Completes ns (Inside no [] [] []) bytes.now v n → (r.0 ≡ v) × (r.1 ≡ n)) }
 {
-    let layout = layout(no);
-    let fixed = length_of_fixed(layout.fixed);
+    let layout = sized_layout(no);
+    let fixed = layout.length;
     let rest = after(bytes, fixed);
     let (stars, taken, count) = match cut_stars(alloc, layout.stars, rest) {
         Ok(cut) => cut,

@@ -1,17 +1,28 @@
 // Which layout a tag has.
 ghost use Rattle.std.specs.Prelude.{◌≡◌, ◌≤◌, length, slice_index};
-ghost use Rattle.faim_tags.specs.Layouts.{row_of, maxima};
+ghost use Rattle.faim_tags.specs.Layouts.{classes, row_of, maxima};
 
 use crate::table;
 use crate::table::Layout;
 use faim_base::TagNo;
 
 /// The layout of a tag.
-#[tactic(auto, unfolding(crate::specs::Layouts::row_of))]
 pub fn layout(no: TagNo) -> &'static Layout
     ensures fixed { result.now.fixed.now ≡ (row_of no).elements }
     ensures stars { result.now.stars.now ≡ (row_of no).most }
     ensures few { length result.now.fixed.now ≤ 100 }
+{
+    sized_layout(no)
+}
+
+// As `layout`, and how many bytes the fixed elements have.
+#[inline(always)]
+#[tactic(auto, unfolding(crate::specs::Layouts::row_of))]
+pub(crate) fn sized_layout(no: TagNo) -> &'static Layout
+    ensures fixed { result.now.fixed.now ≡ (row_of no).elements }
+    ensures stars { result.now.stars.now ≡ (row_of no).most }
+    ensures few { length result.now.fixed.now ≤ 100 }
+    ensures size { result.now.length ≡ length (classes no) }
 {
     match no.get() {
         1100 => &table::DISPOSITION,
@@ -42,5 +53,5 @@ pub fn layout(no: TagNo) -> &'static Layout
 pub(crate) fn greatest(no: TagNo, place: usize) -> u8
     ensures { result ≡ slice_index (maxima no) place }
 {
-    *layout(no).stars.get(place).unwrap_or(&0)
+    *sized_layout(no).stars.get(place).unwrap_or(&0)
 }

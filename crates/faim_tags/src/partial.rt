@@ -9,9 +9,8 @@ ghost use Rattle.faim_tags.specs.Steps.{Progress, InNumber, Inside, numbers_begi
 ghost use Rattle.faim_tags.specs.Partial.{StandsFor, BothStand, EndsAs, NextNumber, Reaches, is_start};
 ghost use Rattle.faim_tags.specs.declared.partial.TagPart.{TagPart};
 
-use crate::classes::{is_star, length_of_fixed, run_from, run_of_text};
-use crate::layout;
-use crate::lookup::greatest;
+use crate::classes::{is_star, run_from, run_of_text};
+use crate::lookup::{greatest, sized_layout};
 use crate::number::{braced, first_with, number_after};
 use faim_base::{TagNo, after, before};
 
@@ -55,6 +54,7 @@ impl TagPart {
 
     /// What the next byte makes of it. None exactly where no tag that has one of the numbers goes on with the byte. The
     /// cost doesn't grow with what was read before.
+    #[inline(always)]
     pub fn step(&self, numbers: &[u16], b: u8) -> Option<TagPart>
         requires { list_all is_tag_number numbers.now ≡ true }
         ensures { (p : Progress) → StandsFor numbers.now self.now p → BothStand numbers.now result (step numbers.now p b) }
@@ -156,6 +156,7 @@ fn number_by_steps(like: TagNo, count: usize, numbers: &[u16], bytes: &[u8]) -> 
 }
 
 // Reads the elements of a tag: the fixed bytes that are left, and the star elements after them.
+#[inline(always)]
 fn read_elements(
     no: TagNo,
     fixed: usize,
@@ -166,7 +167,7 @@ fn read_elements(
     ensures within { result.1 ≤ length bytes.now }
     ensures read { (ns : List ℕ) (p : Progress) → StandsFor ns (TagPart.Elements no fixed stars part) p → Reaches ns p bytes.now result.1 result.0 }
 {
-    let layout = layout(no);
+    let layout = sized_layout(no);
     let (run, whole) = run_from(layout.fixed, fixed, bytes);
     let fixed = fixed + run;
     if !whole {
@@ -315,7 +316,7 @@ pub(crate) fn may_end(no: TagNo, fixed: usize, stars: usize, part: usize) -> boo
     ensures { (fs last : List ℕ) (ss : List (List ℕ)) → fixed ≡ length fs → stars ≡ length ss → part ≡ length last
         → result ≡ may_end (Inside no fs ss last) }
 {
-    let length = length_of_fixed(layout(no).fixed);
+    let length = sized_layout(no).length;
     if fixed < length {
         false
     } else if part == 0 {

@@ -1,5 +1,5 @@
 use Rattle.std.proofs.Common.{◌≡◌, ℕ, List, length, take, drop, sym, ap, subst, ◌∙◌, arith}
-use Rattle.faim_tags.specs.Layouts.{each_class, classes}
+use Rattle.faim_tags.specs.Layouts.{classes}
 use Rattle.faim_tags.specs.Spelling.{IsTag}
 use Rattle.faim_tags.specs.Steps.{Inside, tag_of}
 use Rattle.faim_tags.proofs.Counts.{run_length-short}
@@ -9,13 +9,13 @@ use Rattle.faim_tags.proofs.cutting.cut_elements.Goals as goal
 pub after-rest-requires : goal.after-rest-requires
 after-rest-requires c =
     let t = c.requires.there in
-    let fixed : c.length_of_fixed-fixed.result ≡ length (classes c.args.no) = c.length_of_fixed-fixed.ensures ∙ ap (λ (xs : List (ℕ × ℕ)). length (each_class xs)) c.layout-layout.ensures.fixed in
+    let fixed : c.sized_layout-layout.result.now.length ≡ length (classes c.args.no) = c.sized_layout-layout.ensures.size in
     omega (arith, completes_filled t.0 c.args.no c.args.bytes.now t.1.0 t.1.1.0 t.1.1.1, (run_length-short (classes c.args.no) c.args.bytes.now).1)
 
 pub before-requires : goal.before-requires
 before-requires c =
     let t = c.requires.there in
-    let fixed : c.length_of_fixed-fixed.result ≡ length (classes c.args.no) = c.length_of_fixed-fixed.ensures ∙ ap (λ (xs : List (ℕ × ℕ)). length (each_class xs)) c.layout-layout.ensures.fixed in
+    let fixed : c.sized_layout-layout.result.now.length ≡ length (classes c.args.no) = c.sized_layout-layout.ensures.size in
     omega (arith, completes_filled t.0 c.args.no c.args.bytes.now t.1.0 t.1.1.0 t.1.1.1, (run_length-short (classes c.args.no) c.args.bytes.now).1)
 
 pub built-requires : goal.built-requires
@@ -23,12 +23,12 @@ built-requires c =
     let t = c.requires.there in
     let n = c.args.no in
     let bytes = c.args.bytes.now in
-    let f = c.length_of_fixed-fixed.result in
+    let f = c.sized_layout-layout.result.now.length in
     let stars = c.in-Ok.cut.0 in
     let taken = c.in-Ok.cut.1 in
     let count = c.in-Ok.cut.2 in
-    let fixed : f ≡ length (classes n) = c.length_of_fixed-fixed.ensures ∙ ap (λ (xs : List (ℕ × ℕ)). length (each_class xs)) c.layout-layout.ensures.fixed in
-    let cut = cut_told n bytes c.after-rest.result.now c.layout-layout.result.now.stars.now f stars taken count c.layout-layout.ensures.stars c.after-rest.ensures c.in-Ok.ensures in
+    let fixed : f ≡ length (classes n) = c.sized_layout-layout.ensures.size in
+    let cut = cut_told n bytes c.after-rest.result.now c.sized_layout-layout.result.now.stars.now f stars taken count c.sized_layout-layout.ensures.stars c.after-rest.ensures c.in-Ok.ensures in
     let part : c.before-part.result.now ≡ take count (drop taken (drop f bytes)) = c.before-part.ensures ∙ ap (take count) (c.after.ensures ∙ ap (drop taken) c.after-rest.ensures) in
     let P : List ℕ → Type 0 = λ x. IsTag (tag_of (Inside n x stars c.before-part.result.now)) in
     let Q : List ℕ → Type 0 = λ x. IsTag (tag_of (Inside n (take f bytes) stars x)) in
@@ -38,12 +38,12 @@ pub returns-in-Ok-built : goal.returns-in-Ok-built
 returns-in-Ok-built c ns v k there =
     let n = c.args.no in
     let bytes = c.args.bytes.now in
-    let f = c.length_of_fixed-fixed.result in
+    let f = c.sized_layout-layout.result.now.length in
     let stars = c.in-Ok.cut.0 in
     let taken = c.in-Ok.cut.1 in
     let count = c.in-Ok.cut.2 in
-    let fixed : f ≡ length (classes n) = c.length_of_fixed-fixed.ensures ∙ ap (λ (xs : List (ℕ × ℕ)). length (each_class xs)) c.layout-layout.ensures.fixed in
-    let cut = cut_told n bytes c.after-rest.result.now c.layout-layout.result.now.stars.now f stars taken count c.layout-layout.ensures.stars c.after-rest.ensures c.in-Ok.ensures in
+    let fixed : f ≡ length (classes n) = c.sized_layout-layout.ensures.size in
+    let cut = cut_told n bytes c.after-rest.result.now c.sized_layout-layout.result.now.stars.now f stars taken count c.sized_layout-layout.ensures.stars c.after-rest.ensures c.in-Ok.ensures in
     let part : c.before-part.result.now ≡ take count (drop taken (drop f bytes)) = c.before-part.ensures ∙ ap (take count) (c.after.ensures ∙ ap (drop taken) c.after-rest.ensures) in
     let are = parts_are ns n bytes v k f stars taken count fixed cut there in
     let is : c.in-Ok-built.value ≡ tag_of (Inside n (take f bytes) stars (take count (drop taken (drop f bytes)))) =
