@@ -10,12 +10,12 @@ ghost use Rattle.faim_message.specs.declared.form.Form.{Form};
 
 use crate::head::head_in;
 use crate::{Breaks, Form};
-use faim_base::{Head, IdFault, Items, TagNo};
+use faim_base::{Head, IdFault, TagNo};
 use faim_tags::TagValue;
 use std::marker::Model;
 
 /// A list of tags.
-pub type Tags = Items<TagValue>;
+pub type Tags = Vec<TagValue>;
 
 /// A message of a form: it is always sound, that is, its tags are permitted and distinct, the form's first tag comes
 /// first, and the mandatory tags are there.
@@ -31,9 +31,9 @@ impl Model for Message {
 
     ghost Value = { Content };
 
-    ghost view = { λ m. record { form = m.form; breaks = m.breaks; tags = m.tags } };
+    ghost view = { λ m. record { form = m.form; breaks = m.breaks; tags = m.tags.items } };
 
-    ghost invariant = { λ m. IsMessage (record { form = m.form; breaks = m.breaks; tags = m.tags }) };
+    ghost invariant = { λ m. IsMessage (record { form = m.form; breaks = m.breaks; tags = m.tags.items }) };
 }
 
 impl Message {
@@ -91,8 +91,8 @@ impl Message {
 
 // The message of these parts.
 pub(crate) fn message_of(form: Form, breaks: Breaks, tags: Tags) -> Message
-    requires { IsMessage (record { form = form; breaks = breaks; tags = tags }) }
-    ensures { result ≡ record { form = form; breaks = breaks; tags = tags } }
+    requires { IsMessage (record { form = form; breaks = breaks; tags = tags.items }) }
+    ensures { result ≡ record { form = form; breaks = breaks; tags = tags.items } }
 {
     Message { form, breaks, tags }
 }
@@ -100,7 +100,7 @@ pub(crate) fn message_of(form: Form, breaks: Breaks, tags: Tags) -> Message
 // The breaks and the tags of a message.
 pub(crate) fn parts_of(m: Message) -> (Breaks, Tags)
     ensures breaks { result.0 ≡ m.breaks }
-    ensures tags { result.1 ≡ m.tags }
+    ensures tags { result.1.items ≡ m.tags }
     ensures sound { IsMessage m }
 {
     let Message { breaks, tags, .. } = m;
@@ -120,11 +120,11 @@ fn mark_place(form: Form) -> usize
 // Changes the mark of a form's tags.
 fn set_mark_in(form: Form, tags: &mut Tags, mark: u8)
     requires text { IsTrue (is_text_byte mark) }
-    requires sound { AreTags form tags.old }
-    ensures { tags.new ≡ with_first_byte tags.old (mark_place form) mark }
+    requires sound { AreTags form tags.old.items }
+    ensures { tags.new.items ≡ with_first_byte tags.old.items (mark_place form) mark }
 {
-    if let Some(tag) = tags.get_mut(0) {
-        set_byte(tag, mark_place(form), mark);
+    if !tags.is_empty() {
+        set_byte(&mut tags[0], mark_place(form), mark);
     }
 }
 

@@ -92,7 +92,7 @@ impl MessagePart {
     // The tags of the bytes that were read, all of the bytes, and their breaks.
     fn tags_in(&self, alloc: Global, bytes: &[u8]) -> Result<(Tags, Breaks), Refused>
         requires { HasRead self.now (form_of self.now) bytes.now }
-        ensures { MatchResult result (λ r. Ends (form_of self.now) bytes.now r.0 r.1) (λ e. Fails (form_of self.now) bytes.now e) }
+        ensures { MatchResult result (λ r. Ends (form_of self.now) bytes.now r.0.items r.1) (λ e. Fails (form_of self.now) bytes.now e) }
     {
         let breaks = match self.end() {
             Some(breaks) => breaks,

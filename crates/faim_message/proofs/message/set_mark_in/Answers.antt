@@ -7,6 +7,7 @@ use Rattle.faim_message.proofs.message.set_mark_in.Goals as goal
 
 pub set_byte-requires-clause-class : goal.set_byte-requires-clause-class
 set_byte-requires-clause-class c =
-    let P : ℕ → Type 0 = λ n. get_or (classes c.in-Some.tag.now.no) n 0 ≡ 116 in
+    let tag = c.index_mut.result.now in
+    let P : ℕ → Type 0 = λ n. get_or (classes tag.no) n 0 ≡ 116 in
     let Q : Tag → Type 0 = λ v. get_or (classes v.no) (mark_place c.args.form) 0 ≡ 116 in
-    subst P (sym c.mark_place.ensures) (subst Q (sym c.in-Some.ensures.value) (takes_mark c.args.form c.args.tags.now c.in-Some.tag.now c.requires.sound))
+    subst P (sym c.mark_place.ensures) (subst Q (sym c.index_mut.ensures.value) (takes_mark c.args.form c.args.tags.now.items tag c.requires.sound))

@@ -17,9 +17,9 @@ message_of-requires c =
     let Q : List Tag → Type 0 = λ tags. IsMessage (record { form = Input; breaks = c.parts_of-breaks.result.0; tags = tags }) in
     let R : Breaks → Type 0 = λ breaks. IsMessage (record { form = Input; breaks = breaks; tags = put_after 1510 tag m.tags }) in
     let number : tag.no ≡ 1520 = ap (λ (v : Tag). v.no) c.in_ok-tag.ensures.value in
-    let tags : c.as_slice.result.now ≡ m.tags = c.as_slice.ensures ∙ c.parts_of-breaks.ensures.tags in
-    let put : c.insert.new.self ≡ put_after 1510 tag m.tags =
-    c.in_ok-insert.ensures.ok ∙ ap (λ (ts : List Tag). insert ts c.place_after-place.result tag) (sym c.as_slice.ensures)
+    let tags : c.as_slice.result.now ≡ m.tags = c.as_slice.ensures.value ∙ c.parts_of-breaks.ensures.tags in
+    let put : c.insert.new.self.items ≡ put_after 1510 tag m.tags =
+    c.in_ok-insert.ensures.items ∙ ap (λ (ts : List Tag). insert ts c.place_after-place.result tag) (sym c.as_slice.ensures.value)
     ∙ c.place_after-place.ensures.place tag ∙ ap (put_after 1510 tag) tags in
     subst Q (sym put) (subst R (sym c.parts_of-breaks.ensures.breaks)
     (IsMessage-put m.breaks 1510 tag m.tags number c.in_ok-tag.ensures.sound (subst P c.requires c.parts_of-breaks.ensures.sound)))

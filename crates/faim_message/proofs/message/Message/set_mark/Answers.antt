@@ -8,4 +8,4 @@ pub invariant_of-self : goal.invariant_of-self
 invariant_of-self c =
     let m = c.self.inside in
     let P : List Tag → Type 0 = λ tags. IsMessage (record { form = m.form; breaks = m.breaks; tags = tags }) in
-    subst P (sym c.set_mark_in.ensures) (IsMessage-marked (record { form = m.form; breaks = m.breaks; tags = m.tags }) c.args.mark c.self.invariant c.requires)
+    subst P (sym c.set_mark_in.ensures) (IsMessage-marked (record { form = m.form; breaks = m.breaks; tags = m.tags.items }) c.args.mark c.self.invariant c.requires)

@@ -14,4 +14,4 @@ returns-in-Ok c =
     let form = form_of c.args.self.now in
     let s = c.requires.stage in
     let at = c.in-Some.ensures form s c.requires.stands in
-    ends_there form c.args.bytes.now s c.in-Ok.tags c.in-Some.breaks c.requires.run at.0 at.1 (c.in-Ok.ensures form)
+    ends_there form c.args.bytes.now s c.in-Ok.tags.items c.in-Some.breaks c.requires.run at.0 at.1 (c.in-Ok.ensures form)
