@@ -1,5 +1,6 @@
 // A few bytes without memory of their own.
-ghost use Rattle.std.specs.Prelude.{◌≡◌, slice_set, IfOk};
+ghost use Rattle.std.specs.Prelude.{◌≡◌, ◌<◌, ◌↔◌, length, slice_set, IfOk};
+ghost use Rattle.std.specs.Result.{IsErr};
 
 use faim_base::NoMemory;
 use std::marker::Model;
@@ -25,9 +26,10 @@ impl Model for ShortBytes {
 }
 
 impl ShortBytes {
-    /// The same bytes. `NoMemory` tells that they are more than 35.
+    /// The same bytes. `NoMemory` comes exactly where they are more than 35: no element of a tag is so long.
     pub fn copied(bytes: &[u8]) -> Result<ShortBytes, NoMemory>
-        ensures { IfOk result (λ copy. copy ≡ bytes.now) }
+        ensures ok { IfOk result (λ copy. copy ≡ bytes.now) }
+        ensures long { IsErr result ↔ (35 < length bytes.now) }
     {
         if MOST < bytes.len() {
             return Err(NoMemory);

@@ -17,13 +17,13 @@ with_part n fixed copy stars new part item empty f i p e t =
     ∙ ap (λ (x : List (List ℕ)). record { no = n; fixed = copy; stars = x; closed = false }) (sym p)
 
 pub invariant_of-result : goal.invariant_of-result
-invariant_of-result c = subst IsTag (without_part c.args.no c.args.fixed.now c.in_ok-fixed.fixed c.args.stars c.as_slice.result.now c.args.part.now c.is_empty.result c.is_empty-closed.result c.in_ok-fixed.ensures c.as_slice.ensures c.is_empty.ensures c.if-is_empty.true c.is_empty-closed.ensures) c.requires
+invariant_of-result c = subst IsTag (without_part c.args.no c.args.fixed.now c.in_ok-fixed.fixed c.args.stars c.as_slice.result.now c.args.part.now c.is_empty.result c.is_empty-closed.result c.in_ok-fixed.ensures.ok c.as_slice.ensures c.is_empty.ensures c.if-is_empty.true c.is_empty-closed.ensures) c.requires
 
 pub returns-then-is_empty : goal.returns-then-is_empty
-returns-then-is_empty c = sym (without_part c.args.no c.args.fixed.now c.in_ok-fixed.fixed c.args.stars c.as_slice.result.now c.args.part.now c.is_empty.result c.is_empty-closed.result c.in_ok-fixed.ensures c.as_slice.ensures c.is_empty.ensures c.if-is_empty.true c.is_empty-closed.ensures)
+returns-then-is_empty c = sym (without_part c.args.no c.args.fixed.now c.in_ok-fixed.fixed c.args.stars c.as_slice.result.now c.args.part.now c.is_empty.result c.is_empty-closed.result c.in_ok-fixed.ensures.ok c.as_slice.ensures c.is_empty.ensures c.if-is_empty.true c.is_empty-closed.ensures)
 
 pub invariant_of-result-2 : goal.invariant_of-result-2
-invariant_of-result-2 c = subst IsTag (with_part c.args.no c.args.fixed.now c.in_ok-fixed.fixed c.args.stars c.push.new.self c.args.part.now c.in_ok-copied.field-0 c.is_empty.result c.in_ok-fixed.ensures c.in_ok-copied.ensures c.in_ok-push.ensures.ok c.is_empty.ensures c.if-is_empty.false) c.requires
+invariant_of-result-2 c = subst IsTag (with_part c.args.no c.args.fixed.now c.in_ok-fixed.fixed c.args.stars c.push.new.self c.args.part.now c.in_ok-copied.field-0 c.is_empty.result c.in_ok-fixed.ensures.ok c.in_ok-copied.ensures.ok c.in_ok-push.ensures.ok c.is_empty.ensures c.if-is_empty.false) c.requires
 
 pub returns : goal.returns
-returns c = sym (with_part c.args.no c.args.fixed.now c.in_ok-fixed.fixed c.args.stars c.push.new.self c.args.part.now c.in_ok-copied.field-0 c.is_empty.result c.in_ok-fixed.ensures c.in_ok-copied.ensures c.in_ok-push.ensures.ok c.is_empty.ensures c.if-is_empty.false)
+returns c = sym (with_part c.args.no c.args.fixed.now c.in_ok-fixed.fixed c.args.stars c.push.new.self c.args.part.now c.in_ok-copied.field-0 c.is_empty.result c.in_ok-fixed.ensures.ok c.in_ok-copied.ensures.ok c.in_ok-push.ensures.ok c.is_empty.ensures c.if-is_empty.false)

@@ -29,7 +29,7 @@ loop-most-preserved c =
     let counted : count ≡ text_length (get_or maxima k 0) (drop place bytes) = c.run_of_text-count.ensures ∙ ap (λ (m : ℕ). text_length m c.after-rest.result.now) c.from.ensures ∙ ap (text_length (get_or maxima k 0)) rest in
     let star : eqb (get_or (drop place bytes) count 0) 42 ≡ true = ap (λ (t : List ℕ). eqb (get_or t count 0) 42) (sym rest) ∙ sym c.is_star.ensures ∙ c.if-not-is_star.false in
     let w = closed_on maxima bytes c.loop-most.stars k place count c.loop-most-test.true c.loop-most.invariant.within counted star c.loop-most.invariant.taken in
-    let part : c.in_ok-copied.field-0 ≡ take count (drop place bytes) = c.in_ok-copied.ensures ∙ c.before-in-loop-most.ensures ∙ ap (take count) rest in
+    let part : c.in_ok-copied.field-0 ≡ take count (drop place bytes) = c.in_ok-copied.ensures.ok ∙ c.before-in-loop-most.ensures ∙ ap (take count) rest in
     let pushed : c.push.new.self ≡ c.loop-most.stars ++ take count (drop place bytes) ∷ [] = c.in_ok-push.ensures.ok ∙ ap (λ (s : List ℕ). c.loop-most.stars ++ s ∷ []) part in
     record {
       within = w.0;
