@@ -48,16 +48,12 @@ const NOBODY: [u8; 9] = *b"231380104";
 
 #[test]
 fn the_first_refusal_that_holds_is_given(rt: HostRuntime) -> Result<(), Fail> {
-    let state = HostState::new(rt.alloc(), config(rt.alloc())?)?;
-    decides(
-        &state,
-        &[Line(*b"BANKB001"), Day(8768)],
-        Decision::WrongSource,
-    )?;
+    let state = begun(rt.alloc())?;
     refuses_each(&state)
 }
 
 fn refuses_each(state: &HostState) -> Result<(), Fail> {
+    refuses_a_strange_source(state)?;
     let cases: [(&[Change], u8, u16); 9] = [
         (&[Day(8768), Edit(107)], b'H', 101),
         (&[Edit(107), Sender(NOBODY)], b'E', 107),
@@ -76,9 +72,17 @@ fn refuses_each(state: &HostState) -> Result<(), Fail> {
     Ok(())
 }
 
+fn refuses_a_strange_source(state: &HostState) -> Result<(), Fail> {
+    decides(
+        state,
+        &[Line(*b"BANKB001"), Day(8768)],
+        Decision::WrongSource,
+    )
+}
+
 #[test]
 fn what_nothing_refuses_is_taken(rt: HostRuntime) -> Result<(), Fail> {
-    let state = HostState::new(rt.alloc(), config(rt.alloc())?)?;
+    let state = begun(rt.alloc())?;
     takes_each(&state)
 }
 
@@ -102,35 +106,83 @@ fn takes_each(state: &HostState) -> Result<(), Fail> {
 
 #[test]
 fn a_host_begins_with_no_entry(rt: HostRuntime) -> Result<(), Fail> {
-    let state = HostState::new(rt.alloc(), config(rt.alloc())?)?;
-    assert!(rt; state.is_empty());
-    assert_eq!(rt; state.len(), 0);
-    assert!(rt; state.entry(0).is_none());
-    assert_eq!(rt; state.config().customer, 1080);
-    assert_eq!(rt; state.cycle().get(), 8767);
-    assert_eq!(rt; state.effective(moment(3)?).get(), 3);
+    let state = begun(rt.alloc())?;
+    is_new(&state)
+}
+
+fn is_new(state: &HostState) -> Result<(), Fail> {
+    has_entries(state, 0)?;
+    has_customer_cutoff(state, 1080)?;
+    is_in_cycle(state, 8767)?;
+    takes_effect(state, 3, 3)
+}
+
+// So many entries are there, and a first one where there is any.
+fn has_entries(state: &HostState, count: usize) -> Result<(), Fail> {
+    if state.len() != count || state.is_empty() != (count == 0) {
+        return Err(Fail::from("another count of entries"));
+    }
+    if state.entry(0).is_some() != (count > 0) {
+        return Err(Fail::from("another first entry"));
+    }
+    Ok(())
+}
+
+fn has_customer_cutoff(state: &HostState, minute: u16) -> Result<(), Fail> {
+    if state.config().customer != minute {
+        return Err(Fail::from("another cutoff"));
+    }
+    Ok(())
+}
+
+fn is_in_cycle(state: &HostState, days: u32) -> Result<(), Fail> {
+    is_day(state.cycle(), days)
+}
+
+// What comes at a reading of the clock takes effect at this minute.
+fn takes_effect(state: &HostState, reading: u32, minute: u32) -> Result<(), Fail> {
+    is_minute(state.effective(moment(reading)?), minute)
+}
+
+fn is_minute(found: Moment, minute: u32) -> Result<(), Fail> {
+    if found.get() != minute {
+        return Err(Fail::from("another moment"));
+    }
+    Ok(())
+}
+
+fn is_day(found: CycleDate, days: u32) -> Result<(), Fail> {
+    if found.get() != days {
+        return Err(Fail::from("another date"));
+    }
     Ok(())
 }
 
 #[test]
 fn a_posted_payment_stands(rt: HostRuntime) -> Result<(), Fail> {
-    let (mut state, entry) = opened(rt.alloc())?;
-    state.push(entry)?;
-    assert_eq!(rt; state.len(), 1);
-    assert!(rt; state.entry(0).is_some());
-    assert_eq!(rt; state.effective(moment(12_624_479)?).get(), 12_624_480);
-    let again = changed(&[Day(8767)])?;
-    assert_eq!(rt; decided(&state, &again, TEXT), Decision::Known(0));
-    assert_eq!(rt; decided(&state, &again, b"OTHER"), Decision::Differs(0));
-    Ok(())
+    let state = posted(rt.alloc())?;
+    keeps_the_payment(&state)
+}
+
+fn keeps_the_payment(state: &HostState) -> Result<(), Fail> {
+    has_entries(state, 1)?;
+    takes_effect(state, 12_624_479, 12_624_480)?;
+    decides(state, &[Day(8767)], Decision::Known(0))?;
+    decides_on(state, &[Day(8767)], b"OTHER", Decision::Differs(0))
 }
 
 #[test]
 fn a_posted_payment_moves_money(rt: HostRuntime) -> Result<(), Fail> {
     let (mut state, entry) = opened(rt.alloc())?;
-    has_balances(&state, 1_000_000, 0)?;
+    moves_money(&mut state, entry)
+}
+
+fn moves_money(state: &mut HostState, entry: Entry) -> Result<(), Fail>
+    requires { Follows state.old.config state.old.entries entry }
+{
+    has_balances(state, 1_000_000, 0)?;
     state.push(entry)?;
-    has_balances(&state, 850_000, 150_000)
+    has_balances(state, 850_000, 150_000)
 }
 
 fn has_balances(state: &HostState, payer: i128, payee: i128) -> Result<(), Fail> {
@@ -144,13 +196,23 @@ fn has_balances(state: &HostState, payer: i128, payee: i128) -> Result<(), Fail>
 
 #[test]
 fn a_posted_payment_is_given_to_its_receiver(rt: HostRuntime) -> Result<(), Fail> {
-    let (mut state, entry) = opened(rt.alloc())?;
-    state.push(entry)?;
-    assert_eq!(rt; state.outputs(bank(b"BANKA001")?), 0);
-    assert_eq!(rt; state.outputs(bank(b"BANKB001")?), 1);
-    gives(&state, b"BANKB001", b"20240102000001", &[0])?;
-    gives(&state, b"BANKB001", b"20240102000002", &[])?;
-    gives(&state, b"BANKB001", b"20240101999999", &[0])
+    let state = posted(rt.alloc())?;
+    is_given_to_its_receiver(&state)
+}
+
+fn is_given_to_its_receiver(state: &HostState) -> Result<(), Fail> {
+    has_outputs(state, b"BANKA001", 0)?;
+    has_outputs(state, b"BANKB001", 1)?;
+    gives(state, b"BANKB001", b"20240102000001", &[0])?;
+    gives(state, b"BANKB001", b"20240102000002", &[])?;
+    gives(state, b"BANKB001", b"20240101999999", &[0])
+}
+
+fn has_outputs(state: &HostState, name: &[u8; 8], count: usize) -> Result<(), Fail> {
+    if state.outputs(bank(name)?) != count {
+        return Err(Fail::from("another count of outputs"));
+    }
+    Ok(())
 }
 
 // A retrieval of an endpoint from a position on gives these places.
@@ -165,28 +227,44 @@ fn gives(state: &HostState, name: &[u8; 8], from: &[u8; 14], places: &[usize]) -
 
 #[test]
 fn a_roll_goes_on_to_a_later_date(rt: HostRuntime) -> Result<(), Fail> {
-    let mut state = HostState::new(rt.alloc(), config(rt.alloc())?)?;
-    let current = date(8767)?;
-    assert_eq!(rt;
-        state.roll_case(date(8766)?),
-        RollCase::NotLater { current }
-    );
-    assert_eq!(rt; state.roll_case(current), RollCase::NotLater { current });
-    assert_eq!(rt; state.roll_case(date(8768)?), RollCase::Later);
-    roll(&mut state, moment(12_624_480)?, date(8770)?)?;
-    assert_eq!(rt; state.cycle().get(), 8770);
-    assert_eq!(rt; state.outputs(bank(b"BANKA001")?), 1);
-    Ok(())
+    let mut state = begun(rt.alloc())?;
+    goes_on_later(&mut state)
+}
+
+fn goes_on_later(state: &mut HostState) -> Result<(), Fail> {
+    stays_at(state, 8766, 8767)?;
+    stays_at(state, 8767, 8767)?;
+    may_go_on(state, 8768)?;
+    roll(state, 12_624_480, 8770)?;
+    is_in_cycle(state, 8770)?;
+    has_outputs(state, b"BANKA001", 1)
+}
+
+// The host doesn't go on to a date, and stays at its present one.
+fn stays_at(state: &HostState, days: u32, present: u32) -> Result<(), Fail> {
+    match state.roll_case(date(days)?) {
+        RollCase::NotLater { current } => is_day(current, present),
+        RollCase::Later => Err(Fail::from("a date that is not later")),
+    }
+}
+
+fn may_go_on(state: &HostState, days: u32) -> Result<(), Fail> {
+    match state.roll_case(date(days)?) {
+        RollCase::Later => Ok(()),
+        RollCase::NotLater { .. } => Err(Fail::from("a later date")),
+    }
 }
 
 #[test]
 fn a_roll_ends_the_cycle_of_each_endpoint(rt: HostRuntime) -> Result<(), Fail> {
-    let (mut state, entry) = opened(rt.alloc())?;
-    state.push(entry)?;
-    roll(&mut state, moment(12_625_919)?, date(8768)?)?;
-    assert_eq!(rt; state.len(), 2);
-    has_balances(&state, 850_000, 150_000)?;
-    gives_ends(&state)
+    let state = rolled(rt.alloc())?;
+    ends_each_cycle(&state)
+}
+
+fn ends_each_cycle(state: &HostState) -> Result<(), Fail> {
+    has_entries(state, 2)?;
+    has_balances(state, 850_000, 150_000)?;
+    gives_ends(state)
 }
 
 fn gives_ends(state: &HostState) -> Result<(), Fail> {
@@ -207,9 +285,7 @@ fn gives_ends(state: &HostState) -> Result<(), Fail> {
 
 #[test]
 fn an_entry_gives_its_position(rt: HostRuntime) -> Result<(), Fail> {
-    let (mut state, entry) = opened(rt.alloc())?;
-    state.push(entry)?;
-    roll(&mut state, moment(12_625_919)?, date(8768)?)?;
+    let state = rolled(rt.alloc())?;
     has_positions(&state)
 }
 
@@ -242,9 +318,7 @@ fn number_at(state: &HostState, dest: Endpoint, place: usize) -> Result<Option<u
 
 #[test]
 fn a_new_cycle_numbers_from_one(rt: HostRuntime) -> Result<(), Fail> {
-    let (mut state, entry) = opened(rt.alloc())?;
-    state.push(entry)?;
-    roll(&mut state, moment(12_625_919)?, date(8768)?)?;
+    let state = rolled(rt.alloc())?;
     decides_anew(&state)
 }
 
@@ -266,8 +340,12 @@ fn decides_anew(state: &HostState) -> Result<(), Fail> {
     )
 }
 
-// The host goes on to a date, where it may.
-fn roll(state: &mut HostState, moment: Moment, date: CycleDate) -> Result<(), Fail> {
+// The host goes on to a date at a minute, where it may.
+fn roll(state: &mut HostState, minutes: u32, days: u32) -> Result<(), Fail> {
+    roll_to(state, moment(minutes)?, date(days)?)
+}
+
+fn roll_to(state: &mut HostState, moment: Moment, date: CycleDate) -> Result<(), Fail> {
     if state.effective(moment) != moment {
         return Err(Fail::from("an entry that is later"));
     }
@@ -279,8 +357,18 @@ fn roll(state: &mut HostState, moment: Moment, date: CycleDate) -> Result<(), Fa
 
 // The decision on the payment with these changes is this one.
 fn decides(state: &HostState, changes: &[Change], want: Decision) -> Result<(), Fail> {
+    decides_on(state, changes, TEXT, want)
+}
+
+// The same on a message of this text.
+fn decides_on(
+    state: &HostState,
+    changes: &[Change],
+    body: &[u8],
+    want: Decision,
+) -> Result<(), Fail> {
     let case = changed(changes)?;
-    if decided(state, &case, TEXT) != want {
+    if decided(state, &case, body) != want {
         return Err(Fail::from("another decision"));
     }
     Ok(())
@@ -306,24 +394,37 @@ fn changed(changes: &[Change]) -> Result<Case, Fail> {
         moment: moment(12_624_480)?,
     };
     for change in changes {
-        match *change {
-            Line(name) => case.line = bank(&name)?,
-            Day(days) => case.head.imad.date = date(days)?,
-            Sender(holder) => case.head.sender = account(&holder)?,
-            Receiver(holder) => case.head.receiver = account(&holder)?,
-            Code(code) => case.head.code = code,
-            Subtype(sub) => case.head.sub = sub,
-            Amount(amount) => case.head.amount = cents(amount)?,
-            Edit(code) => {
-                case.edit = Some(Reject {
-                    category: b'E',
-                    code,
-                })
-            }
-            Minute(minute) => case.moment = moment(12_624_480 + u32::from(minute))?,
-        }
+        apply(change, &mut case)?;
     }
     Ok(case)
+}
+
+fn apply(change: &Change, case: &mut Case) -> Result<(), Fail> {
+    match *change {
+        Line(name) => case.line = bank(&name)?,
+        Edit(code) => {
+            case.edit = Some(Reject {
+                category: b'E',
+                code,
+            })
+        }
+        Minute(minute) => case.moment = moment(12_624_480 + u32::from(minute))?,
+        _ => apply_to_head(change, &mut case.head)?,
+    }
+    Ok(())
+}
+
+fn apply_to_head(change: &Change, head: &mut Head) -> Result<(), Fail> {
+    match *change {
+        Day(days) => head.imad.date = date(days)?,
+        Sender(holder) => head.sender = account(&holder)?,
+        Receiver(holder) => head.receiver = account(&holder)?,
+        Code(code) => head.code = code,
+        Subtype(sub) => head.sub = sub,
+        Amount(amount) => head.amount = cents(amount)?,
+        Line(_) | Edit(_) | Minute(_) => {}
+    }
+    Ok(())
 }
 
 fn bank(name: &[u8; 8]) -> Result<Endpoint, Fail>
@@ -445,4 +546,23 @@ fn opened(alloc: Global) -> Result<(HostState, Entry), Fail>
         },
     };
     Ok((state, entry))
+}
+
+// The host before its first entry.
+fn begun(alloc: Global) -> Result<HostState, Fail> {
+    Ok(HostState::new(alloc, config(alloc)?)?)
+}
+
+// The host after the payment.
+fn posted(alloc: Global) -> Result<HostState, Fail> {
+    let (mut state, entry) = opened(alloc)?;
+    state.push(entry)?;
+    Ok(state)
+}
+
+// The host after the payment, and the end of its cycle a minute before midnight.
+fn rolled(alloc: Global) -> Result<HostState, Fail> {
+    let mut state = posted(alloc)?;
+    roll(&mut state, 12_625_919, 8768)?;
+    Ok(state)
 }

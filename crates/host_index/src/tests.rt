@@ -108,6 +108,13 @@ struct Plain {
 }
 
 impl Plain {
+    fn new(alloc: Global) -> Plain {
+        Plain {
+            posted: Vec::new(alloc),
+            outputs: Vec::new(alloc),
+        }
+    }
+
     fn place_of(&self, imad: &Imad) -> Option<usize> {
         for own in self.posted.as_slice() {
             if own.0 == *imad {
@@ -172,15 +179,15 @@ impl Plain {
 
 #[test]
 fn an_index_answers_as_plain_lists_do(rt: HostRuntime) -> Result<(), Fail> {
-    let alloc = rt.alloc();
-    let mut index = HostIndex::new(alloc);
-    let mut plain = Plain {
-        posted: Vec::new(alloc),
-        outputs: Vec::new(alloc),
-    };
-    agree(alloc, &index, &plain)?;
+    let mut index = HostIndex::new(rt.alloc());
+    answers_as_plain_lists_do(rt.alloc(), &mut index)
+}
+
+fn answers_as_plain_lists_do(alloc: Global, index: &mut HostIndex) -> Result<(), Fail> {
+    let mut plain = Plain::new(alloc);
+    agree(alloc, index, &plain)?;
     let steps = steps(alloc)?;
-    walk(alloc, &mut index, &mut plain, steps.as_slice())
+    walk(alloc, index, &mut plain, steps.as_slice())
 }
 
 // Takes each step and all that follow it, takes them back, and then goes on without it: each choice of the steps is there
@@ -214,20 +221,34 @@ fn walk(alloc: Global, index: &mut HostIndex, plain: &mut Plain, steps: &[Step])
 // Whether the index answers as the lists do.
 fn agree(alloc: Global, index: &HostIndex, plain: &Plain) -> Result<(), Fail> {
     for asked in ASKED {
-        let imad = imad(asked)?;
-        if index.find(&imad) != plain.place_of(&imad) {
-            return Err(Fail::from("another place"));
-        }
+        agree_on_place(index, plain, asked)?;
     }
     for name in [BANK_A, BANK_B, BANK_C, b"NOBANK01"] {
-        let dest = Endpoint::read(name).ok_or("an endpoint")?;
-        if index.total(dest) != plain.total(dest) {
-            return Err(Fail::from("another total"));
-        }
-        agree_on_counts(index, plain, dest)?;
-        agree_on_places(alloc, index, plain, dest)?;
+        agree_on_endpoint(alloc, index, plain, name)?;
     }
     Ok(())
+}
+
+fn agree_on_place(index: &HostIndex, plain: &Plain, asked: Numbered) -> Result<(), Fail> {
+    let imad = imad(asked)?;
+    if index.find(&imad) != plain.place_of(&imad) {
+        return Err(Fail::from("another place"));
+    }
+    Ok(())
+}
+
+fn agree_on_endpoint(
+    alloc: Global,
+    index: &HostIndex,
+    plain: &Plain,
+    name: &[u8; 8],
+) -> Result<(), Fail> {
+    let dest = Endpoint::read(name).ok_or("an endpoint")?;
+    if index.total(dest) != plain.total(dest) {
+        return Err(Fail::from("another total"));
+    }
+    agree_on_counts(index, plain, dest)?;
+    agree_on_places(alloc, index, plain, dest)
 }
 
 fn agree_on_counts(index: &HostIndex, plain: &Plain, dest: Endpoint) -> Result<(), Fail> {
@@ -259,56 +280,90 @@ fn agree_on_places(
 
 #[test]
 fn a_retrieval_gives_the_first_sixty_four(rt: HostRuntime) -> Result<(), Fail> {
-    let alloc = rt.alloc();
-    let mut index = HostIndex::new(alloc);
+    let mut index = HostIndex::new(rt.alloc());
+    post_seventy(&mut index)?;
+    gives_sixty_four(rt.alloc(), &index)
+}
+
+fn post_seventy(index: &mut HostIndex) -> Result<(), Fail> {
     for number in 1..71 {
-        let imad = imad(Numbered(BANK_A, 8767, number))?;
-        let to = output(Some(Numbered(BANK_B, 8767, number)))?;
-        post(&mut index, &imad, &to, 1000 + number as usize)?;
+        post_numbered(index, number)?;
     }
-    let dest = Endpoint::read(BANK_B).ok_or("an endpoint")?;
-    assert_eq!(rt; index.total(dest), 70);
+    Ok(())
+}
+
+// Posts the message with a number, whose output has that number too.
+fn post_numbered(index: &mut HostIndex, number: u32) -> Result<(), Fail> {
+    let imad = imad(Numbered(BANK_A, 8767, number))?;
+    let to = output(Some(Numbered(BANK_B, 8767, number)))?;
+    post(index, &imad, &to, 1000 + number as usize)
+}
+
+fn gives_sixty_four(alloc: Global, index: &HostIndex) -> Result<(), Fail> {
+    has_total(index, BANK_B, 70)?;
     for (number, first, end) in [
         (1, 1001, 1065),
         (7, 1007, 1071),
         (8, 1008, 1071),
         (70, 1070, 1071),
     ] {
-        let found = index.from(dest, position(8767, number)?)?;
-        let mut wanted = Vec::new(alloc);
-        for place in first..end {
-            wanted.push(place)?;
-        }
-        assert!(rt; found.as_slice() == wanted.as_slice());
+        gives_between(alloc, index, number, first, end)?;
     }
     Ok(())
+}
+
+// A retrieval from a number on gives the places from one up to another.
+fn gives_between(
+    alloc: Global,
+    index: &HostIndex,
+    number: u32,
+    first: usize,
+    end: usize,
+) -> Result<(), Fail> {
+    let mut wanted = Vec::new(alloc);
+    for place in first..end {
+        wanted.push(place)?;
+    }
+    gives(index, BANK_B, (8767, number), wanted.as_slice())
 }
 
 #[test]
 fn an_empty_index_knows_nothing(rt: HostRuntime) -> Result<(), Fail> {
     let index = HostIndex::new(rt.alloc());
-    let dest = Endpoint::read(BANK_A).ok_or("an endpoint")?;
-    let date = CycleDate::new(8767).ok_or("a date")?;
-    assert_eq!(rt; index.find(&imad(Numbered(BANK_A, 8767, 1))?), None);
-    assert_eq!(rt; index.count(dest, date), 0);
-    assert_eq!(rt; index.total(dest), 0);
-    assert!(rt; index.from(dest, position(0, 1)?)?.as_slice().is_empty());
-    Ok(())
+    knows_nothing(&index)
+}
+
+fn knows_nothing(index: &HostIndex) -> Result<(), Fail> {
+    finds(index, Numbered(BANK_A, 8767, 1), None)?;
+    has_count(index, BANK_A, 8767, 0)?;
+    has_total(index, BANK_A, 0)?;
+    gives(index, BANK_A, (0, 1), &[])
 }
 
 #[test]
 fn each_call_answers_once(rt: HostRuntime) -> Result<(), Fail> {
     let mut index = HostIndex::new(rt.alloc());
+    post_and_roll(rt.alloc(), &mut index)?;
+    stands(&index)?;
+    gives_both(&index)
+}
+
+// Posts a message, and ends the cycle of its receiver.
+fn post_and_roll(alloc: Global, index: &mut HostIndex) -> Result<(), Fail> {
     let imad = imad(Numbered(BANK_A, 8767, 1))?;
     let to = output(Some(Numbered(BANK_B, 8767, 3)))?;
-    let bank = Endpoint::read(BANK_B).ok_or("an endpoint")?;
-    let date = CycleDate::new(8767).ok_or("a date")?;
-    post(&mut index, &imad, &to, 12)?;
-    let ends = outputs(rt.alloc(), &[Numbered(BANK_B, 8768, 1)])?;
-    roll(&mut index, ends.as_slice(), 13)?;
-    assert_eq!(rt; index.find(&imad), Some(12));
-    assert_eq!(rt; index.count(bank, date), 1);
-    assert_eq!(rt; index.total(bank), 2);
+    let ends = outputs(alloc, &[Numbered(BANK_B, 8768, 1)])?;
+    post(index, &imad, &to, 12)?;
+    roll(index, ends.as_slice(), 13)
+}
+
+fn stands(index: &HostIndex) -> Result<(), Fail> {
+    finds(index, Numbered(BANK_A, 8767, 1), Some(12))?;
+    has_count(index, BANK_B, 8767, 1)?;
+    has_total(index, BANK_B, 2)
+}
+
+fn gives_both(index: &HostIndex) -> Result<(), Fail> {
     let asked: [((u32, u32), &[usize]); 6] = [
         ((8767, 2), &[12, 13]),
         ((8767, 3), &[12, 13]),
@@ -317,8 +372,49 @@ fn each_call_answers_once(rt: HostRuntime) -> Result<(), Fail> {
         ((8768, 2), &[]),
         ((8769, 1), &[]),
     ];
-    for ((days, number), wanted) in asked {
-        assert!(rt; index.from(bank, position(days, number)?)?.as_slice() == wanted);
+    for (from, wanted) in asked {
+        gives(index, BANK_B, from, wanted)?;
+    }
+    Ok(())
+}
+
+// The place of a message is this one.
+fn finds(index: &HostIndex, message: Numbered, wanted: Option<usize>) -> Result<(), Fail> {
+    if index.find(&imad(message)?) != wanted {
+        return Err(Fail::from("another place"));
+    }
+    Ok(())
+}
+
+// An endpoint has so many outputs under a date.
+fn has_count(index: &HostIndex, name: &[u8; 8], days: u32, wanted: u32) -> Result<(), Fail> {
+    let dest = Endpoint::read(name).ok_or("an endpoint")?;
+    let date = CycleDate::new(days).ok_or("a date")?;
+    if index.count(dest, date) != wanted {
+        return Err(Fail::from("another count"));
+    }
+    Ok(())
+}
+
+fn has_total(index: &HostIndex, name: &[u8; 8], wanted: usize) -> Result<(), Fail> {
+    let dest = Endpoint::read(name).ok_or("an endpoint")?;
+    if index.total(dest) != wanted {
+        return Err(Fail::from("another total"));
+    }
+    Ok(())
+}
+
+// A retrieval of an endpoint from a date and a number on gives these places.
+fn gives(
+    index: &HostIndex,
+    name: &[u8; 8],
+    from: (u32, u32),
+    wanted: &[usize],
+) -> Result<(), Fail> {
+    let dest = Endpoint::read(name).ok_or("an endpoint")?;
+    let found = index.from(dest, position(from.0, from.1)?)?;
+    if found.as_slice() != wanted {
+        return Err(Fail::from("other places"));
     }
     Ok(())
 }

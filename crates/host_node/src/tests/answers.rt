@@ -1,14 +1,14 @@
 // The payloads of a test host of two banks, on 2024-01-02 at 09:30.
-ghost use Rattle.std.specs.Prelude.{IfOk};
-ghost use Rattle.host_ledger.specs.Soundness.{IsConfig};
+ghost use Rattle.std.specs.Prelude.{IsTrue};
+ghost use Rattle.faim_base.specs.Text.{is_text_byte};
 
 use super::payments::{morning, roll};
-use super::{account, bank};
+use super::{bank, begun, refused, taken};
 use crate::{ack_payload, output_payload, submit, turned_payload};
-use faim_base::{CycleDate, Endpoint, Imad, Reject, Seq, Verdict};
+use faim_base::{CycleDate, Imad, Reject, Seq, Verdict};
 use faim_model::HostOutcome;
 use host_core::HostState;
-use host_ledger::{Accounts, Config, Entry};
+use host_ledger::Entry;
 use std::alloc::Global;
 use std::test::Fail;
 
@@ -37,25 +37,6 @@ const CYCLE_END: &[u8] =
 const OTHER_TEXT: &[u8] =
     b"{1100}30T 3{1110}01020930FAIM{1130}X201IMAD IS KNOWN WITH OTHER TEXT*{1520}20240102BANKA001000001";
 
-fn config(alloc: Global) -> Result<Config, Fail>
-    ensures { IfOk result IsConfig }
-{
-    let mut accounts = Accounts::new(alloc);
-    accounts.push(account(b"021000021", b"BANKA001", 1_000_000)?)?;
-    accounts.push(account(b"121042882", b"BANKB001", 0)?)?;
-    let config = Config {
-        env: b'T',
-        date: CycleDate::new(8_767).ok_or("a date")?,
-        customer: 1_440,
-        bank: 1_440,
-        accounts,
-    };
-    if !config.is_sound() {
-        return Err(Fail::from("a sound configuration"));
-    }
-    Ok(config)
-}
-
 // Submits a text on the first bank's line, which is recorded with a verdict.
 fn record(
     alloc: Global,
@@ -78,102 +59,113 @@ fn record(
     }
 }
 
-fn taken() -> Result<Verdict, Fail> {
-    Ok(Verdict::Taken {
-        dest: bank(b"BANKB001")?,
-        seq: Seq::new(1).ok_or("a number")?,
-    })
-}
-
-fn refused_ack(alloc: Global, state: &HostState) -> Result<Vec<u8>, Fail> {
-    let mut out = Vec::new(alloc);
-    match state.entry(1) {
-        Some(Entry::Posted { .. }) => ack_payload(state, 1, b'P', &mut out)?,
-        Some(Entry::Roll { .. }) => return Err(Fail::from("a message")),
-        None => return Err(Fail::from("an entry")),
-    }
-    Ok(out)
-}
-
-fn taken_ack(alloc: Global, state: &HostState) -> Result<Vec<u8>, Fail> {
-    let mut out = Vec::new(alloc);
-    match state.entry(0) {
-        Some(Entry::Posted { .. }) => ack_payload(state, 0, b' ', &mut out)?,
-        Some(Entry::Roll { .. }) => return Err(Fail::from("a message")),
-        None => return Err(Fail::from("an entry")),
-    }
-    Ok(out)
-}
-
-fn delivered(alloc: Global, state: &HostState, dest: Endpoint) -> Result<Vec<u8>, Fail> {
-    let mut out = Vec::new(alloc);
-    match state.position(dest, 0) {
-        Some(_) => output_payload(state, dest, 0, b' ', &mut out)?,
-        None => return Err(Fail::from("an output")),
-    }
-    Ok(out)
+// The payment, which is taken, and the one of more than its sender has.
+fn record_both(alloc: Global, state: &mut HostState) -> Result<(), Fail> {
+    record(alloc, state, PAYMENT, 1, taken(1)?)?;
+    record(alloc, state, TOO_MUCH, 2, refused(b'F', 401))
 }
 
 #[test]
 fn entries_are_acknowledged_and_delivered(rt: HostRuntime) -> Result<(), Fail> {
-    let mut state = HostState::new(rt.alloc(), config(rt.alloc())?)?;
-    let line = bank(b"BANKA001")?;
+    let mut state = begun(rt.alloc(), b'T')?;
+    record_both(rt.alloc(), &mut state)?;
+    are_told(rt.alloc(), &state)
+}
+
+fn are_told(alloc: Global, state: &HostState) -> Result<(), Fail> {
+    is_acknowledged(alloc, state, 0, b' ', TAKEN)?;
+    is_acknowledged(alloc, state, 1, b'P', REFUSED)?;
+    is_delivered(alloc, state, 0, DELIVERED)?;
+    gives_one_output(state)
+}
+
+// The acknowledgement of the message at a place, with a mark, is this one.
+fn is_acknowledged(
+    alloc: Global,
+    state: &HostState,
+    place: usize,
+    mark: u8,
+    want: &[u8],
+) -> Result<(), Fail>
+    requires { IsTrue (is_text_byte mark) }
+{
+    let mut out = Vec::new(alloc);
+    match state.entry(place) {
+        Some(Entry::Posted { .. }) => ack_payload(state, place, mark, &mut out)?,
+        Some(Entry::Roll { .. }) => return Err(Fail::from("a message")),
+        None => return Err(Fail::from("an entry")),
+    }
+    is_payload(out.as_slice(), want)
+}
+
+// The output that the entry at a place gives the second bank is this one.
+fn is_delivered(alloc: Global, state: &HostState, place: usize, want: &[u8]) -> Result<(), Fail> {
     let dest = bank(b"BANKB001")?;
-    record(rt.alloc(), &mut state, PAYMENT, 1, taken()?)?;
-    let below = Verdict::Refused(Reject {
-        category: b'F',
-        code: 401,
-    });
-    record(rt.alloc(), &mut state, TOO_MUCH, 2, below)?;
-    let taken = taken_ack(rt.alloc(), &state)?;
-    assert_eq!(rt; taken.as_slice(), TAKEN);
-    let refused = refused_ack(rt.alloc(), &state)?;
-    assert_eq!(rt; refused.as_slice(), REFUSED);
-    let output = delivered(rt.alloc(), &state, dest)?;
-    assert_eq!(rt; output.as_slice(), DELIVERED);
-    assert_eq!(rt; state.position(dest, 0).is_some(), true);
-    assert_eq!(rt; state.position(line, 0), None);
-    assert_eq!(rt; state.position(dest, 1), None);
-    assert_eq!(rt; state.position(dest, 2), None);
+    let mut out = Vec::new(alloc);
+    match state.position(dest, place) {
+        Some(_) => output_payload(state, dest, place, b' ', &mut out)?,
+        None => return Err(Fail::from("an output")),
+    }
+    is_payload(out.as_slice(), want)
+}
+
+fn is_payload(found: &[u8], want: &[u8]) -> Result<(), Fail> {
+    if found != want {
+        return Err(Fail::from("another payload"));
+    }
     Ok(())
 }
 
-fn cycle_end(alloc: Global, state: &HostState, dest: Endpoint) -> Result<Vec<u8>, Fail> {
-    let mut out = Vec::new(alloc);
-    match state.position(dest, 1) {
-        Some(_) => output_payload(state, dest, 1, b' ', &mut out)?,
-        None => return Err(Fail::from("an output")),
+// Only the first entry gives an output, and only to the second bank.
+fn gives_one_output(state: &HostState) -> Result<(), Fail> {
+    for (name, place, is_given) in [
+        (b"BANKB001", 0, true),
+        (b"BANKA001", 0, false),
+        (b"BANKB001", 1, false),
+        (b"BANKB001", 2, false),
+    ] {
+        if state.position(bank(name)?, place).is_some() != is_given {
+            return Err(Fail::from("another position"));
+        }
     }
-    Ok(out)
+    Ok(())
 }
 
 #[test]
 fn the_end_of_a_cycle_is_delivered(rt: HostRuntime) -> Result<(), Fail> {
-    let mut state = HostState::new(rt.alloc(), config(rt.alloc())?)?;
-    let dest = bank(b"BANKB001")?;
-    record(rt.alloc(), &mut state, PAYMENT, 1, taken()?)?;
-    roll(&mut state, CycleDate::new(8_768).ok_or("a date")?)?;
-    let end = cycle_end(rt.alloc(), &state, dest)?;
-    assert_eq!(rt; end.as_slice(), CYCLE_END);
-    Ok(())
+    let mut state = begun(rt.alloc(), b'T')?;
+    end_a_cycle(rt.alloc(), &mut state)?;
+    is_delivered(rt.alloc(), &state, 1, CYCLE_END)
+}
+
+fn end_a_cycle(alloc: Global, state: &mut HostState) -> Result<(), Fail> {
+    record(alloc, state, PAYMENT, 1, taken(1)?)?;
+    roll(state, CycleDate::new(8_768).ok_or("a date")?)
 }
 
 #[test]
 fn a_submission_is_turned_away(rt: HostRuntime) -> Result<(), Fail> {
-    let mut out = Vec::new(rt.alloc());
+    strange_text_is_turned_away(rt.alloc())?;
+    other_text_is_turned_away(rt.alloc())
+}
+
+fn strange_text_is_turned_away(alloc: Global) -> Result<(), Fail> {
     let strange = Reject {
         category: b'E',
         code: 1,
     };
+    let mut out = Vec::new(alloc);
     turned_payload(b'T', strange, None, morning()?, &mut out)?;
-    assert_eq!(rt; out.as_slice(), NO_MESSAGE);
-    let mut other = Vec::new(rt.alloc());
+    is_payload(out.as_slice(), NO_MESSAGE)
+}
+
+fn other_text_is_turned_away(alloc: Global) -> Result<(), Fail> {
     let known = Reject {
         category: b'X',
         code: 201,
     };
     let imad = Imad::read(b"20240102BANKA001000001")?;
-    turned_payload(b'T', known, Some(imad), morning()?, &mut other)?;
-    assert_eq!(rt; other.as_slice(), OTHER_TEXT);
-    Ok(())
+    let mut out = Vec::new(alloc);
+    turned_payload(b'T', known, Some(imad), morning()?, &mut out)?;
+    is_payload(out.as_slice(), OTHER_TEXT)
 }

@@ -1,7 +1,7 @@
 // A host over two cycles, and a retrieval of many outputs, as they were worked out by hand.
-use super::payments::{Kind, Payment, aba, cents, days_on, record, refused, repeat, roll};
-use super::{bank, config};
-use faim_base::{CycleDate, Imad, OutPos, Seq, Verdict};
+use super::payments::{Kind, Payment, aba, cents, days_on, record, repeat, roll};
+use super::{bank, begun, has_entries, refused, taken};
+use faim_base::{CycleDate, Imad, OutPos, Seq};
 use host_core::{HostState, RollCase};
 use std::alloc::Global;
 use std::test::Fail;
@@ -21,24 +21,24 @@ fn payment(date: CycleDate, number: u32, thousands: usize) -> Result<Payment, Fa
     })
 }
 
-fn taken(number: u32) -> Result<Verdict, Fail> {
-    Ok(Verdict::Taken {
-        dest: bank(b"BANKB001")?,
-        seq: Seq::new(number).ok_or("a number")?,
-    })
-}
-
 // Whether these are the balances of the two banks in cents, and their counts of outputs.
 fn stands(state: &HostState, balances: [i128; 2], outputs: [usize; 2]) -> Result<(), Fail> {
-    if state.balance(&aba(b"021000021")?) != Some(balances[0])
-        || state.balance(&aba(b"121042882")?) != Some(balances[1])
-    {
-        return Err(Fail::from("other balances"));
+    has_balance(state, b"021000021", balances[0])?;
+    has_balance(state, b"121042882", balances[1])?;
+    has_outputs(state, b"BANKA001", outputs[0])?;
+    has_outputs(state, b"BANKB001", outputs[1])
+}
+
+fn has_balance(state: &HostState, number: &[u8; 9], cents: i128) -> Result<(), Fail> {
+    if state.balance(&aba(number)?) != Some(cents) {
+        return Err(Fail::from("another balance"));
     }
-    if state.outputs(bank(b"BANKA001")?) != outputs[0]
-        || state.outputs(bank(b"BANKB001")?) != outputs[1]
-    {
-        return Err(Fail::from("other counts of outputs"));
+    Ok(())
+}
+
+fn has_outputs(state: &HostState, name: &[u8; 8], count: usize) -> Result<(), Fail> {
+    if state.outputs(bank(name)?) != count {
+        return Err(Fail::from("another count of outputs"));
     }
     Ok(())
 }
@@ -51,54 +51,90 @@ fn is_at(state: &HostState, name: &[u8; 8], place: usize, at: &[u8; 14]) -> Resu
     Ok(())
 }
 
-#[test]
-fn a_cycle_goes_on_under_its_new_date(rt: HostRuntime) -> Result<(), Fail> {
-    let alloc = rt.alloc();
-    let mut state = HostState::new(alloc, config(alloc)?)?;
-    let tuesday = state.cycle();
-    let wednesday = days_on(tuesday, 1)?;
-    let first = payment(tuesday, 1, 150)?;
-    let second = payment(wednesday, 1, 150)?;
-    record(alloc, &mut state, &first, b' ', taken(1)?)?;
-    roll(&mut state, wednesday)?;
-    record(alloc, &mut state, &second, b' ', taken(1)?)?;
-    repeat(alloc, &mut state, &first, b'P', taken(1)?)?;
-    stands(&state, [700_000, 300_000], [1, 3])?;
-    is_at(&state, b"BANKA001", 1, b"20240102000001")?;
-    is_at(&state, b"BANKB001", 0, b"20240102000001")?;
-    is_at(&state, b"BANKB001", 1, b"20240102000002")?;
-    is_at(&state, b"BANKB001", 2, b"20240103000001")?;
-    assert_eq!(rt; state.len(), 3);
-    assert_eq!(rt; state.cycle(), wednesday);
+fn is_in_cycle(state: &HostState, date: CycleDate) -> Result<(), Fail> {
+    is_date(state.cycle(), date)
+}
+
+fn is_date(found: CycleDate, date: CycleDate) -> Result<(), Fail> {
+    if found != date {
+        return Err(Fail::from("another date"));
+    }
     Ok(())
 }
 
 #[test]
+fn a_cycle_goes_on_under_its_new_date(rt: HostRuntime) -> Result<(), Fail> {
+    let mut state = begun(rt.alloc(), b'P')?;
+    goes_on(rt.alloc(), &mut state)?;
+    gives_under_both_dates(&state)
+}
+
+// A payment on each side of the Roll, both with the first number, and the first one again.
+fn goes_on(alloc: Global, state: &mut HostState) -> Result<(), Fail> {
+    let tuesday = state.cycle();
+    let wednesday = days_on(tuesday, 1)?;
+    let first = payment(tuesday, 1, 150)?;
+    let second = payment(wednesday, 1, 150)?;
+    record(alloc, state, &first, b' ', taken(1)?)?;
+    roll(state, wednesday)?;
+    record(alloc, state, &second, b' ', taken(1)?)?;
+    repeat(alloc, state, &first, b'P', taken(1)?)?;
+    is_in_cycle(state, wednesday)
+}
+
+fn gives_under_both_dates(state: &HostState) -> Result<(), Fail> {
+    stands(state, [700_000, 300_000], [1, 3])?;
+    is_at(state, b"BANKA001", 1, b"20240102000001")?;
+    is_at(state, b"BANKB001", 0, b"20240102000001")?;
+    is_at(state, b"BANKB001", 1, b"20240102000002")?;
+    is_at(state, b"BANKB001", 2, b"20240103000001")?;
+    has_entries(state, 3)
+}
+
+#[test]
 fn a_refusal_before_a_roll_stands_after_it(rt: HostRuntime) -> Result<(), Fail> {
-    let alloc = rt.alloc();
-    let mut state = HostState::new(alloc, config(alloc)?)?;
+    let mut state = begun(rt.alloc(), b'P')?;
+    comes_a_day_early(rt.alloc(), &mut state)?;
+    stands(&state, [1_000_000, 0], [1, 1])
+}
+
+// A payment under the next date, which is refused, and again after the Roll to it.
+fn comes_a_day_early(alloc: Global, state: &mut HostState) -> Result<(), Fail> {
     let wednesday = days_on(state.cycle(), 1)?;
     let early = payment(wednesday, 1, 150)?;
-    let verdict = refused(b'H', 101);
-    record(alloc, &mut state, &early, b' ', verdict)?;
-    roll(&mut state, wednesday)?;
-    repeat(alloc, &mut state, &early, b' ', verdict)?;
-    let current = wednesday;
-    assert_eq!(rt; state.roll_case(wednesday), RollCase::NotLater { current });
-    stands(&state, [1_000_000, 0], [1, 1])
+    record(alloc, state, &early, b' ', refused(b'H', 101))?;
+    roll(state, wednesday)?;
+    repeat(alloc, state, &early, b' ', refused(b'H', 101))?;
+    stays_at(state, wednesday)
+}
+
+// A Roll to the present date is none to a later one.
+fn stays_at(state: &HostState, date: CycleDate) -> Result<(), Fail> {
+    match state.roll_case(date) {
+        RollCase::NotLater { current } => is_date(current, date),
+        RollCase::Later => Err(Fail::from("a date that is not later")),
+    }
 }
 
 #[test]
 fn sixty_four_of_many_outputs_are_retrieved(rt: HostRuntime) -> Result<(), Fail> {
-    let alloc = rt.alloc();
-    let mut state = HostState::new(alloc, config(alloc)?)?;
+    let mut state = begun(rt.alloc(), b'P')?;
+    give_seventy(rt.alloc(), &mut state)?;
+    sixty_four_are_retrieved(rt.alloc(), &state)
+}
+
+fn give_seventy(alloc: Global, state: &mut HostState) -> Result<(), Fail> {
     for number in 1..71 {
-        give_next(alloc, &mut state, number)?;
+        give_next(alloc, state, number)?;
     }
+    Ok(())
+}
+
+fn sixty_four_are_retrieved(alloc: Global, state: &HostState) -> Result<(), Fail> {
+    has_outputs(state, b"BANKB001", 70)?;
     for (number, first, end) in [(1, 0, 64), (7, 6, 70), (8, 7, 70), (65, 64, 70)] {
-        are_retrieved(alloc, &state, number, first, end)?;
+        are_retrieved(alloc, state, number, first, end)?;
     }
-    assert_eq!(rt; state.outputs(bank(b"BANKB001")?), 70);
     Ok(())
 }
 

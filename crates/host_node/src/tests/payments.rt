@@ -1,6 +1,7 @@
 // Payments as a production host is given them on 2024-01-02 at 09:30, and the end of its cycle.
+use super::refused;
 use crate::submit;
-use faim_base::{Aba, Cents, CycleDate, Imad, Moment, Reject, Verdict, padded};
+use faim_base::{Aba, Cents, CycleDate, Imad, Moment, Verdict, padded};
 use faim_model::HostOutcome;
 use host_core::{HostState, RollCase};
 use host_ledger::Entry;
@@ -65,24 +66,40 @@ pub(super) fn morning() -> Result<Moment, Fail> {
 
 // The text of a payment, with a mark.
 pub(super) fn text_of(alloc: Global, payment: &Payment, mark: u8) -> Result<Vec<u8>, Fail> {
-    let mut imad = [0; 22];
-    payment.imad.write(&mut imad);
-    let mut amount = [0; 12];
-    padded(payment.amount.get(), &mut amount);
     let mut text = Vec::new(alloc);
+    write_begin(mark, &mut text)?;
+    write_imad(&payment.imad, &mut text)?;
+    write_amount(payment.amount, &mut text)?;
+    write_parties(payment, &mut text)?;
+    text.extend_from_slice(payment.kind.tags())?;
+    Ok(text)
+}
+
+fn write_begin(mark: u8, text: &mut Vec<u8>) -> Result<(), Fail> {
     text.extend_from_slice(b"{1500}30USERREQ1P")?;
-    text.push(mark)?;
+    Ok(text.push(mark)?)
+}
+
+fn write_imad(imad: &Imad, text: &mut Vec<u8>) -> Result<(), Fail> {
+    let mut bytes = [0; 22];
+    imad.write(&mut bytes);
     text.extend_from_slice(b"{1520}")?;
-    text.extend_from_slice(&imad)?;
+    Ok(text.extend_from_slice(&bytes)?)
+}
+
+fn write_amount(amount: Cents, text: &mut Vec<u8>) -> Result<(), Fail> {
+    let mut digits = [0; 12];
+    padded(amount.get(), &mut digits);
     text.extend_from_slice(b"{2000}")?;
-    text.extend_from_slice(&amount)?;
+    Ok(text.extend_from_slice(&digits)?)
+}
+
+fn write_parties(payment: &Payment, text: &mut Vec<u8>) -> Result<(), Fail> {
     text.extend_from_slice(b"{3100}")?;
     text.extend_from_slice(&payment.sender.bytes())?;
     text.extend_from_slice(b"*{3400}")?;
     text.extend_from_slice(&payment.receiver.bytes())?;
-    text.extend_from_slice(b"*")?;
-    text.extend_from_slice(payment.kind.tags())?;
-    Ok(text)
+    Ok(text.extend_from_slice(b"*")?)
 }
 
 // Submits a payment on the line of its source.
@@ -147,10 +164,6 @@ pub(super) fn confuse(
     } else {
         Err(Fail::from("a text that is turned away"))
     }
-}
-
-pub(super) fn refused(category: u8, code: u16) -> Verdict {
-    Verdict::Refused(Reject { category, code })
 }
 
 // The refusal of a text that is turned away.

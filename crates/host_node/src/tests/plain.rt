@@ -1,5 +1,6 @@
 // What a list of entries says to one who walks over it from its begin, with nothing beside it.
-use super::payments::{Payment, refused};
+use super::payments::Payment;
+use super::refused;
 use faim_base::{Aba, CycleDate, Endpoint, Imad, OutPos, Seq, Verdict};
 use host_core::HostState;
 use host_ledger::{Entry, has_endpoint};

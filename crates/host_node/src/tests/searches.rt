@@ -1,16 +1,15 @@
 // A host answers as one does who searches its list: on lists that are made by chance, and on lists that are cut.
-ghost use Rattle.std.specs.Prelude.{◌<◌, IfOk};
-ghost use Rattle.host_ledger.specs.Soundness.{IsConfig};
+ghost use Rattle.std.specs.Prelude.{◌<◌};
 
 use super::payments::{
     Kind, Payment, aba, cents, confuse, days_on, morning, record, repeat, roll, text_of,
 };
 use super::plain::Output;
-use super::{account, bank, plain};
-use faim_base::{CycleDate, Endpoint, Head, Imad, OutPos, Seq, Verdict};
+use super::{account, bank, config_of, plain, two_accounts};
+use faim_base::{Aba, CycleDate, Endpoint, Head, Imad, OutPos, Seq, Verdict};
 use faim_model::Decision;
 use host_core::{HostState, Judged};
-use host_ledger::{Accounts, Config, Entry};
+use host_ledger::{Accounts, Entry};
 use std::alloc::Global;
 use std::test::Fail;
 
@@ -45,26 +44,17 @@ impl Chance {
     }
 }
 
-// 2024-01-02, without cutoffs.
-fn three_banks(alloc: Global) -> Result<Config, Fail>
-    ensures { IfOk result IsConfig }
-{
-    let mut accounts = Accounts::new(alloc);
-    accounts.push(account(b"021000021", b"BANKA001", 1_000_000)?)?;
-    accounts.push(account(b"121042882", b"BANKB001", 0)?)?;
+// A host of three banks before its first entry.
+fn begun(alloc: Global) -> Result<HostState, Fail> {
+    let config = config_of(b'P', four_accounts(alloc)?)?;
+    Ok(HostState::new(alloc, config)?)
+}
+
+fn four_accounts(alloc: Global) -> Result<Accounts, Fail> {
+    let mut accounts = two_accounts(alloc)?;
     accounts.push(account(b"231380104", b"BANKA001", 250_000)?)?;
     accounts.push(account(b"011000015", b"BANKC001", 500_000)?)?;
-    let config = Config {
-        env: b'P',
-        date: CycleDate::new(8_767).ok_or("a date")?,
-        customer: 1_440,
-        bank: 1_440,
-        accounts,
-    };
-    if !config.is_sound() {
-        return Err(Fail::from("a sound configuration"));
-    }
-    Ok(config)
+    Ok(accounts)
 }
 
 // What is given to a host by chance, and how many texts were told what.
@@ -208,14 +198,9 @@ fn submit_again(
 
 // Whether the host answers as a search of its list does.
 fn agree(alloc: Global, state: &HostState) -> Result<(), Fail> {
-    if state.cycle() != plain::cycle_at(state, state.len()) {
-        return Err(Fail::from("another cycle"));
-    }
+    agree_on_cycle(state)?;
     for (number, _) in ACCOUNTS {
-        let aba = aba(number)?;
-        if state.balance(&aba) != plain::balance(state, &aba) {
-            return Err(Fail::from("another balance"));
-        }
+        agree_on_balance(state, &aba(number)?)?;
     }
     for name in LINES {
         agree_on_outputs(alloc, state, bank(name)?)?;
@@ -226,9 +211,27 @@ fn agree(alloc: Global, state: &HostState) -> Result<(), Fail> {
     Ok(())
 }
 
+fn agree_on_cycle(state: &HostState) -> Result<(), Fail> {
+    if state.cycle() != plain::cycle_at(state, state.len()) {
+        return Err(Fail::from("another cycle"));
+    }
+    Ok(())
+}
+
+fn agree_on_balance(state: &HostState, aba: &Aba) -> Result<(), Fail> {
+    if state.balance(aba) != plain::balance(state, aba) {
+        return Err(Fail::from("another balance"));
+    }
+    Ok(())
+}
+
 fn agree_on_outputs(alloc: Global, state: &HostState, dest: Endpoint) -> Result<(), Fail> {
     let outputs = plain::outputs(alloc, state, dest)?;
-    let outputs = outputs.as_slice();
+    agree_on_positions(state, dest, outputs.as_slice())?;
+    agree_on_retrievals(alloc, state, dest, outputs.as_slice())
+}
+
+fn agree_on_positions(state: &HostState, dest: Endpoint, outputs: &[Output]) -> Result<(), Fail> {
     if state.outputs(dest) != outputs.len() {
         return Err(Fail::from("another count of outputs"));
     }
@@ -237,6 +240,16 @@ fn agree_on_outputs(alloc: Global, state: &HostState, dest: Endpoint) -> Result<
             return Err(Fail::from("another position"));
         }
     }
+    Ok(())
+}
+
+// From the position of each output on, and from a few others.
+fn agree_on_retrievals(
+    alloc: Global,
+    state: &HostState,
+    dest: Endpoint,
+    outputs: &[Output],
+) -> Result<(), Fail> {
     for output in outputs {
         agree_on_places(alloc, state, dest, outputs, output.at)?;
     }
@@ -297,10 +310,14 @@ fn a_host_answers_as_a_search_of_its_list_does(rt: HostRuntime) -> Result<(), Fa
 }
 
 fn grow(alloc: Global, walk: &mut Walk, seed: u32) -> Result<(), Fail> {
-    let mut state = HostState::new(alloc, three_banks(alloc)?)?;
+    let mut state = begun(alloc)?;
     walk.begin(seed);
-    agree(alloc, &state)?;
-    steps(alloc, &mut state, walk, 21)
+    agree_and_grow(alloc, &mut state, walk)
+}
+
+fn agree_and_grow(alloc: Global, state: &mut HostState, walk: &mut Walk) -> Result<(), Fail> {
+    agree(alloc, state)?;
+    steps(alloc, state, walk, 21)
 }
 
 fn steps(alloc: Global, state: &mut HostState, walk: &mut Walk, count: u32) -> Result<(), Fail> {
@@ -320,11 +337,15 @@ fn a_host_that_is_cut_is_as_it_was(rt: HostRuntime) -> Result<(), Fail> {
 }
 
 fn grow_and_cut(alloc: Global, walk: &mut Walk, seed: u32) -> Result<(), Fail> {
-    let mut state = HostState::new(alloc, three_banks(alloc)?)?;
+    let mut state = begun(alloc)?;
     walk.begin(seed);
-    steps(alloc, &mut state, walk, 21)?;
+    grow_then_cut(alloc, &mut state, walk)
+}
+
+fn grow_then_cut(alloc: Global, state: &mut HostState, walk: &mut Walk) -> Result<(), Fail> {
+    steps(alloc, state, walk, 21)?;
     for cut in 0..7 {
-        cut_and_grow(alloc, &mut state, walk, cut)?;
+        cut_and_grow(alloc, state, walk, cut)?;
     }
     Ok(())
 }
