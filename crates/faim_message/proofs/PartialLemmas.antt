@@ -1,10 +1,10 @@
 -- A message byte by byte, without memory of its bytes: what is known of it tells which byte goes on.
-use Rattle.std.proofs.Common.{◌≡◌, ℕ, ◌+◌, ◌<◌, ◌≤◌, Bool, true, false, not, List, [], ◌∷◌, ◌++◌, length, get_or, take, drop, Option, Some, None, refl, sym, ap, subst, ◌∙◌, append_assoc, length-append, arith}
+use Rattle.std.proofs.Common.{◌≡◌, ℕ, ◌+◌, ◌<◌, ◌≤◌, Bool, true, false, not, List, [], ◌∷◌, ◌++◌, length, get_or, take, drop, Option, Some, None, refl, sym, ap, subst, ◌∙◌, append_assoc, append-nil, length-append, arith}
 use Rattle.std.specs.Prelude.{◌==◌, filter, if◌then◌else◌}
 use Rattle.std.proofs.lemmas.List.{take_more, get_or-append-add, get_or-drop, length-drop}
 use Rattle.std.proofs.Math.Seq.{take-append-add, take-add}
 use Rattle.faim_tags.specs.Spelling.{Tag, is_empty}
-use Rattle.faim_tags.specs.Steps.{Progress, InNumber, may_end, tag_of}
+use Rattle.faim_tags.specs.Steps.{Progress, InNumber, step, may_end, tag_of}
 use Rattle.faim_tags.specs.Partial.{StandsFor, BothStand, Reaches}
 use Rattle.faim_tags.specs.declared.partial.TagPart.{TagPart}
 use Rattle.faim_message.specs.declared.form.Form.{Form}
@@ -101,6 +101,43 @@ pub moves_off : (m n : MessagePart) (form : Form) (s : Stage) (bytes : List ℕ)
     → ((t : Stage) → StandsAt m form t → PastTag form t (get_or bytes k 0) → Follows n form false (next form t (get_or bytes k 0))) → Moves n form s bytes k false
 moves_off m n form s bytes k lt r off = (r.stage, r.run, lt, barred n form (next form r.stage (get_or bytes k 0)) (off r.stage r.stands (r.past lt)))
 
+-- one byte is read of the tag that is being read
+pub tag_goes : (m : MessagePart) (form : Form) (t : TagPart) (b : ℕ) → ((tags : List Tag) (p : Progress) → Knows m form tags → PartOf (open_numbers form tags) m.tag p → BothStand (open_numbers form tags) (Some t) (step (open_numbers form tags) p b))
+    → (m.tag ≡ None → ⊥) → (s : Stage) → StandsAt m form s → Follows (record { form = m.form; any = m.any; remaining = m.remaining; so_far = m.so_far; tag = Some t }) form true (next form s b)
+tag_goes m form t b on none (Within tags so_far p) h = goes (step (open_numbers form tags) p b) (on tags p h.0 h.2)
+  where
+    goes : (o : Option Progress) → BothStand (open_numbers form tags) (Some t) o → Follows (record { form = m.form; any = m.any; remaining = m.remaining; so_far = m.so_far; tag = Some t }) form true (elim o [ None ↦ if may_end p then after_tag form (tags ++ tag_of p ∷ []) so_far b else None | Some q ↦ Some (Within tags so_far q) ])
+    goes None both = absurd both
+    goes (Some q) both = (record { form_is = h.0.form_is; any_is = h.0.any_is; left_is = h.0.left_is }, h.1, both)
+tag_goes m form t b on none (Returned tags) h = absurd (none h.1)
+
+no_progress : (ns : List ℕ) (o : Option Progress) → BothStand ns None o → o ≡ None
+no_progress ns None both = refl
+no_progress ns (Some p) both = absurd both
+
+-- the tag doesn't go on with the byte
+pub tag_past : (m : MessagePart) (form : Form) (b : ℕ) → ((tags : List Tag) (p : Progress) → Knows m form tags → PartOf (open_numbers form tags) m.tag p → BothStand (open_numbers form tags) None (step (open_numbers form tags) p b))
+    → (s : Stage) → StandsAt m form s → PastTag form s b
+tag_past m form b off (Within tags so_far p) h = no_progress (open_numbers form tags) (step (open_numbers form tags) p b) (off tags p h.0 h.2)
+tag_past m form b off (Returned tags) h = tt
+
+-- one byte as a piece
+one_on : (n : MessagePart) (form : Form) (s : Stage) (b : ℕ) → Follows n form true (next form s b) → Moves n form s (b ∷ []) 1 true
+one_on n form s b follows = let g = gone n form (next form s b) follows in (g.0, reads-one form s g.0 b [] g.1, g.2)
+
+one_off : (n : MessagePart) (form : Form) (s : Stage) (b : ℕ) → Follows n form false (next form s b) → Moves n form s (b ∷ []) 0 false
+one_off n form s b follows = (s, refl, omega arith, barred n form (next form s b) follows)
+
+pub byte_read : (m n : MessagePart) (form : Form) (bytes : List ℕ) (b : ℕ) → HasRead m form bytes → ((s : Stage) → StandsAt m form s → Follows n form true (next form s b)) → HasRead n form (bytes ++ b ∷ [])
+byte_read m n form bytes b h on =
+    let w = one_on n form h.stage b (on h.stage h.stands) in
+    record { stage = w.0; run = reads-then form start h.stage bytes (b ∷ []) h.run ∙ w.1; stands = w.2 }
+
+pub one_byte : (piece : List ℕ) → length piece ≡ 1 → get_or piece 0 0 ∷ [] ≡ piece
+one_byte [] e = absurd (omega (arith, e))
+one_byte (b ∷ []) e = refl
+one_byte (b ∷ a ∷ piece) e = absurd (omega (arith, e))
+
 -- some bytes more are read
 pub read_more : (m n : MessagePart) (form : Form) (bytes piece : List ℕ) (a k : ℕ) → HasRead m form (bytes ++ take a piece)
     → ((s : Stage) → StandsAt m form s → Moves n form s (drop a piece) k true) → HasRead n form (bytes ++ take (a + k) piece)
@@ -127,6 +164,11 @@ read_stops m n form bytes piece a k le h off =
         none = ap (next form w.0) (get_or-append-add bytes piece (a + k) 0 ∙ sym (get_or-drop a piece k 0)) ∙ w.3;
       }),
     )
+
+pub byte_stops : (m n : MessagePart) (form : Form) (bytes : List ℕ) (b : ℕ) → HasRead m form bytes → ((s : Stage) → StandsAt m form s → Follows n form false (next form s b)) → StopsAt form (bytes ++ b ∷ []) (length bytes + 0)
+byte_stops m n form bytes b h off =
+    let P : List ℕ → Type 0 = λ l. HasRead m form l in
+    (read_stops m n form bytes (b ∷ []) 0 0 (omega arith) (subst P (sym (append-nil bytes)) h) (λ s stands. one_off n form s b (off s stands))).1
 
 -- what was read begins a message
 pub read_begins : (m : MessagePart) (form : Form) (bytes : List ℕ) → HasRead m form bytes → Begins form bytes

@@ -3,8 +3,8 @@ ghost use Rattle.std.specs.Prelude.{◌≡◌, ◌≢◌, ◌+◌, ◌<◌, ◌�
 ghost use Rattle.std.specs.List.{list_all};
 ghost use Rattle.faim_base.specs.Tags.{is_tag_number};
 ghost use Rattle.faim_tags.specs.Spelling.{Tag};
-ghost use Rattle.faim_tags.specs.Steps.{Progress, may_end, tag_of};
-ghost use Rattle.faim_tags.specs.Partial.{Reaches, EndsAs};
+ghost use Rattle.faim_tags.specs.Steps.{Progress, may_end, step, tag_of};
+ghost use Rattle.faim_tags.specs.Partial.{BothStand, Reaches, EndsAs};
 ghost use Rattle.faim_message.specs.declared.form.Form.{Form};
 ghost use Rattle.faim_base.specs.declared.judgement.Refused.{Refused};
 ghost use Rattle.faim_message.specs.Spelling.{Spells};
@@ -60,15 +60,10 @@ impl MessagePart {
         ensures stops { (form : Form) (bytes : List ℕ) → HasRead self.old form bytes → result < length piece.now
             → StopsAt form (bytes ++ piece.now) (length bytes + result) }
     {
-        let mut count = 0;
-        while count < piece.len() {
-            let (length, on) = self.read_some(after(piece, count));
-            count += length;
-            if !on {
-                return count;
-            }
+        if piece.len() != 1 {
+            return self.read_piece(piece);
         }
-        count
+        if self.read_byte(piece[0]) { 1 } else { 0 }
     }
 
     /// The answer of `decode` on the bytes, which are all that was read.
@@ -118,6 +113,66 @@ impl MessagePart {
                     None
                 }
             }
+            None => None,
+        }
+    }
+
+    // As `read`, for a piece of any length.
+    #[inline(never)]
+    fn read_piece(&mut self, piece: &[u8]) -> usize
+        ensures form { form_of self.new ≡ form_of self.old }
+        ensures within { result ≤ length piece.now }
+        ensures read { (form : Form) (bytes : List ℕ) → HasRead self.old form bytes → result ≡ length piece.now
+            → HasRead self.new form (bytes ++ piece.now) }
+        ensures stops { (form : Form) (bytes : List ℕ) → HasRead self.old form bytes → result < length piece.now
+            → StopsAt form (bytes ++ piece.now) (length bytes + result) }
+    {
+        let mut count = 0;
+        while count < piece.len() {
+            let (length, on) = self.read_some(after(piece, count));
+            count += length;
+            if !on {
+                return count;
+            }
+        }
+        count
+    }
+
+    // Reads one byte, where some message goes on with it.
+    #[inline(never)]
+    fn read_byte(&mut self, b: u8) -> bool
+        ensures form { form_of self.new ≡ form_of self.old }
+        ensures goes { (form : Form) (s : Stage) → StandsAt self.old form s → Follows self.new form result (next form s b) }
+    {
+        match self.tag_with(b) {
+            Some(tag) => {
+                self.tag = Some(tag);
+                true
+            }
+            None => self.step_past_alone(b),
+        }
+    }
+
+    // As `step_past`, where one byte comes alone: kept apart, since it is called once in a tag.
+    #[inline(never)]
+    fn step_past_alone(&mut self, b: u8) -> bool
+        ensures form { form_of self.new ≡ form_of self.old }
+        ensures tag { (form : Form) (tags : List Tag) (p : Progress) → Knows self.old form tags → PartOf (open_numbers form tags) self.old.tag p
+            → Follows self.new form result (if may_end p then after_tag form (tags ++ tag_of p ∷ []) self.old.so_far b else None) }
+        ensures returned { (form : Form) (tags : List Tag) → Knows self.old form tags → self.old.tag ≡ None
+            → Follows self.new form result (next form (Returned tags) b) }
+    {
+        self.step_past(b)
+    }
+
+    // What the byte makes of the tag that is being read.
+    fn tag_with(&self, b: u8) -> Option<TagPart>
+        ensures tag { (form : Form) (tags : List Tag) (p : Progress) → Knows self.now form tags → PartOf (open_numbers form tags) self.now.tag p
+            → BothStand (open_numbers form tags) result (step (open_numbers form tags) p b) }
+        ensures none { self.now.tag ≡ None → result ≡ None }
+    {
+        match &self.tag {
+            Some(tag) => tag.step(self.open(), b),
             None => None,
         }
     }
@@ -181,6 +236,7 @@ impl MessagePart {
     }
 
     // Reads one byte with which no tag goes on.
+    #[inline(always)]
     fn step_past(&mut self, b: u8) -> bool
         ensures form { form_of self.new ≡ form_of self.old }
         ensures tag { (form : Form) (tags : List Tag) (p : Progress) → Knows self.old form tags → PartOf (open_numbers form tags) self.old.tag p
@@ -195,6 +251,7 @@ impl MessagePart {
     }
 
     // Reads the byte after a whole tag with this number.
+    #[inline(always)]
     fn step_after(&mut self, no: TagNo, b: u8) -> bool
         ensures form { form_of self.new ≡ form_of self.old }
         ensures goes { (form : Form) (tags : List Tag) (v : Tag) → Knows self.old form tags → no ≡ v.no
@@ -206,6 +263,7 @@ impl MessagePart {
     }
 
     // Reads the byte after a whole tag that is counted among the whole ones.
+    #[inline(always)]
     fn step_break(&mut self, b: u8) -> bool
         ensures form { form_of self.new ≡ form_of self.old }
         ensures goes { (form : Form) (tags : List Tag) → Knows self.old form tags → Follows self.new form result (after_tag form tags self.old.so_far b) }
@@ -225,6 +283,7 @@ impl MessagePart {
     }
 
     // Reads the first byte of a tag that stands right after another.
+    #[inline(always)]
     fn step_bare(&mut self, b: u8) -> bool
         ensures form { form_of self.new ≡ form_of self.old }
         ensures goes { (form : Form) (tags : List Tag) → Knows self.old form tags → Follows self.new form result (begun form tags b) }

@@ -12,4 +12,5 @@ pub mod Built
 pub mod Judgements
 pub mod PartialLemmas
 pub mod RunLemmas
+pub mod ByteLemmas
 pub mod CutLemmas

@@ -150,29 +150,8 @@ reaches_more ns p bytes a k t u le r on =
       stands = more.stands;
     }
 
--- what one byte makes
-pub one_read : (ns : List ℕ) (p : Progress) (b k : ℕ) (t : TagPart) → k ≡ 1 → Reaches ns p (b ∷ []) k t → BothStand ns (Some t) (step ns p b)
-one_read ns p b k t is r =
-    let P : ℕ → Type 0 = λ j. steps ns p (take j (b ∷ [])) ≡ Some r.last in
-    go (step ns p b) (subst P is r.stuck.run) r.stands
-  where
-    go : (o : Option Progress) → (elim o [ None ↦ None | Some q ↦ Some q ]) ≡ Some r.last → StandsFor ns t r.last → BothStand ns (Some t) o
-    go None e h = absurd cc
-    go (Some q) e h = let same : q ≡ r.last = cc in subst (StandsFor ns t) (sym same) h
-
-pub none_read : (ns : List ℕ) (p : Progress) (b k : ℕ) (t : TagPart) → k ≡ 0 → Reaches ns p (b ∷ []) k t → BothStand ns None (step ns p b)
-none_read ns p b k t is r =
-    let P : ℕ → Type 0 = λ j. steps ns p (take j (b ∷ [])) ≡ Some r.last in
-    let Q : ℕ → Type 0 = λ j. j < 1 → step ns r.last (get_or (b ∷ []) j 0) ≡ None in
-    let run : Some p ≡ Some r.last = subst P is r.stuck.run in
-    let same : r.last ≡ p = cc in
-    let R : Progress → Type 0 = λ q. step ns q b ≡ None in
-    let none : step ns p b ≡ None = subst R same (subst Q is r.stuck.none (omega arith)) in
-    let S : Option Progress → Type 0 = λ o. BothStand ns None o in
-    subst S (sym none) tt
-
 -- a byte that isn't of its class
-fixed_stop : (ns : List ℕ) (n fixed stars part b : ℕ) (q : Progress) → fixed < length (classes n) → is_of_class (get_or (classes n) fixed 0) b ≡ false → StandsFor ns (Elements n fixed stars part) q → step ns q b ≡ None
+pub fixed_stop : (ns : List ℕ) (n fixed stars part b : ℕ) (q : Progress) → fixed < length (classes n) → is_of_class (get_or (classes n) fixed 0) b ≡ false → StandsFor ns (Elements n fixed stars part) q → step ns q b ≡ None
 fixed_stop ns n fixed stars part b (InNumber given) lt wrong h = absurd h
 fixed_stop ns n fixed stars part b (Inside m fs ss last) lt wrong h =
     let P : ℕ → Type 0 = λ j. step ns (Inside j fs ss last) b ≡ None in
@@ -207,7 +186,7 @@ reads_star ns n fixed stars part (b ∷ bytes) (Inside m fs ss last) le lt star 
     subst R h.0 (record { last = next; run = step-one ns (Inside n fs ss last) next b [] (subst P (sym is) on); stands = (refl, h.1, omega (arith, h.2, length_push ss last), refl) })
 
 -- neither a star nor text
-star_stop : (ns : List ℕ) (n fixed stars part b : ℕ) (q : Progress) → length (classes n) ≤ fixed → (stars < length (maxima n) → eqb b 42 ≡ false) → (part < get_or (maxima n) stars 0 → is_text_byte b ≡ false) → StandsFor ns (Elements n fixed stars part) q → step ns q b ≡ None
+pub star_stop : (ns : List ℕ) (n fixed stars part b : ℕ) (q : Progress) → length (classes n) ≤ fixed → (stars < length (maxima n) → eqb b 42 ≡ false) → (part < get_or (maxima n) stars 0 → is_text_byte b ≡ false) → StandsFor ns (Elements n fixed stars part) q → step ns q b ≡ None
 star_stop ns n fixed stars part b (InNumber given) le star text h = absurd h
 star_stop ns n fixed stars part b (Inside m fs ss last) le star text h =
     let P : ℕ → Type 0 = λ j. step ns (Inside j fs ss last) b ≡ None in

@@ -1,7 +1,7 @@
 // Bytes of a class, one after another.
 ghost use Rattle.std.specs.Prelude.{◌≡◌, ◌+◌, ◌≤◌, ◌<◌, ◌^◌, ◌==◌, true, false, length, drop, replicate, slice_index, MatchResult, Result};
 ghost use Rattle.faim_base.specs.Text.{is_text_byte};
-ghost use Rattle.faim_tags.specs.Layouts.{each_class};
+ghost use Rattle.faim_tags.specs.Layouts.{each_class, is_of_class};
 ghost use Rattle.faim_tags.specs.Reading.{goes_on};
 ghost use Rattle.faim_tags.specs.Parts.{digits_length, run_length, text_length};
 
@@ -85,8 +85,19 @@ fn text_one_by_one(most: usize, bytes: &[u8]) -> usize
     count
 }
 
+// The byte is of the class: a digit for the class `n`, a text byte for every other.
+pub(crate) fn is_of_class(class: u8, b: u8) -> bool
+    ensures { result ≡ is_of_class class b }
+{
+    if class == b'n' {
+        is_digit(b)
+    } else {
+        is_text(b)
+    }
+}
+
 // As `is_text_byte`, told with few comparisons for most bytes.
-fn is_text(b: u8) -> bool
+pub(crate) fn is_text(b: u8) -> bool
     ensures { result ≡ is_text_byte b }
 {
     if b < b'{' {

@@ -41,7 +41,7 @@ fn cut_elements(alloc: Global, no: TagNo, bytes: &[u8]) -> Result<(TagValue, usi
     ensures { IfOk result (λ r. (ns : List ℕ) (v : Tag) (n : ℕ) → Completes ns (Inside no [] [] []) bytes.now v n → (r.0 ≡ v) × (r.1 ≡ n)) }
 {
     let layout = sized_layout(no);
-    let fixed = layout.length;
+    let fixed = layout.classes.len();
     let rest = after(bytes, fixed);
     let (stars, taken, count) = match cut_stars(alloc, layout.stars, rest) {
         Ok(cut) => cut,

@@ -15,14 +15,14 @@ pub fn layout(no: TagNo) -> &'static Layout
     sized_layout(no)
 }
 
-// As `layout`, and how many bytes the fixed elements have.
+// As `layout`, and the class of each byte of the fixed elements.
 #[inline(always)]
 #[tactic(auto, unfolding(crate::specs::Layouts::row_of))]
 pub(crate) fn sized_layout(no: TagNo) -> &'static Layout
     ensures fixed { result.now.fixed.now ≡ (row_of no).elements }
     ensures stars { result.now.stars.now ≡ (row_of no).most }
     ensures few { length result.now.fixed.now ≤ 100 }
-    ensures size { result.now.length ≡ length (classes no) }
+    ensures classes { result.now.classes.now ≡ classes no }
 {
     match no.get() {
         1100 => &table::DISPOSITION,

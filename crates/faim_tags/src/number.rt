@@ -24,6 +24,22 @@ pub(crate) fn braced(number: u16) -> [u8; 6]
     ]
 }
 
+// A byte of a number in braces.
+pub(crate) fn byte_of(number: u16, place: usize) -> u8
+    requires number { number < 10_000 }
+    requires place { place < 6 }
+    ensures { result ≡ slice_index (braced number) place }
+{
+    match place {
+        0 => b'{',
+        1 => b'0' + (number / 1000) as u8,
+        2 => b'0' + (number / 100 % 10) as u8,
+        3 => b'0' + (number / 10 % 10) as u8,
+        4 => b'0' + (number % 10) as u8,
+        _ => b'}',
+    }
+}
+
 // The number, one of these, of which all bytes in braces stand at the front but for the first ones, at most one of them.
 pub(crate) fn number_after(count: usize, numbers: &[u16], bytes: &[u8]) -> Option<TagNo>
     requires { list_all is_tag_number numbers.now ≡ true }

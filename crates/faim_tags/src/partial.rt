@@ -1,5 +1,5 @@
 // One tag byte by byte, without memory of its bytes.
-ghost use Rattle.std.specs.Prelude.{◌≡◌, ◌+◌, ◌<◌, ◌≤◌, ◌++◌, ◌∷◌, [], ℕ, List, length, take, true, false, IfSome, MatchOption};
+ghost use Rattle.std.specs.Prelude.{◌≡◌, ◌+◌, ◌^◌, ◌<◌, ◌≤◌, ◌++◌, ◌∷◌, [], ℕ, List, length, take, slice_index, true, false, IfSome, MatchOption};
 ghost use Rattle.std.specs.List.{list_all};
 ghost use Rattle.faim_base.specs.Tags.{is_tag_number};
 ghost use Rattle.faim_tags.specs.Layouts.{classes, maxima};
@@ -9,9 +9,9 @@ ghost use Rattle.faim_tags.specs.Steps.{Progress, InNumber, Inside, numbers_begi
 ghost use Rattle.faim_tags.specs.Partial.{StandsFor, BothStand, EndsAs, NextNumber, Reaches, is_start};
 ghost use Rattle.faim_tags.specs.declared.partial.TagPart.{TagPart};
 
-use crate::classes::{is_star, run_from, run_of_text};
+use crate::classes::{is_of_class, is_star, is_text, run_from, run_of_text};
 use crate::lookup::{greatest, sized_layout};
-use crate::number::{braced, first_with, number_after};
+use crate::number::{braced, byte_of, first_with, number_after};
 use faim_base::{TagNo, after, before};
 
 /// How far a tag is read, without the bytes that were read. `Number`: so many bytes, fewer than six, of its number in
@@ -281,10 +281,10 @@ fn next_number(like: TagNo, count: usize, numbers: &[u16], b: u8) -> Option<TagN
     if 6 <= count {
         return None;
     }
-    let mut front = braced(like.get());
-    if front[count] == b {
+    if byte_of(like.get(), count) == b {
         return Some(like);
     }
+    let mut front = braced(like.get());
     front[count] = b;
     match first_with(before(&front, count + 1), numbers) {
         Some(number) => TagNo::new(number),
@@ -307,8 +307,67 @@ fn first_number(like: TagNo, numbers: &[u16], b: u8) -> Option<TagNo>
 fn step_element(no: TagNo, fixed: usize, stars: usize, part: usize, b: u8) -> Option<TagPart>
     ensures { (ns : List ℕ) (p : Progress) → StandsFor ns (TagPart.Elements no fixed stars part) p → BothStand ns result (step ns p b) }
 {
-    let (next, length) = read_elements(no, fixed, stars, part, &[b]);
-    if length == 0 { None } else { Some(next) }
+    let layout = sized_layout(no);
+    if fixed < layout.classes.len() {
+        return step_fixed(no, fixed, stars, part, layout.classes[fixed], b);
+    }
+    if stars < layout.stars.len() {
+        step_star(no, fixed, stars, part, layout.stars[stars], b)
+    } else {
+        None
+    }
+}
+
+// What the next byte makes of part of the fixed elements, where it has to be of a class.
+fn step_fixed(
+    no: TagNo,
+    fixed: usize,
+    stars: usize,
+    part: usize,
+    class: u8,
+    b: u8,
+) -> Option<TagPart>
+    requires part { fixed < length (classes no) }
+    requires room { fixed < 2 ^ 63 }
+    requires class { class ≡ slice_index (classes no) fixed }
+    ensures { (ns : List ℕ) (p : Progress) → StandsFor ns (TagPart.Elements no fixed stars part) p → BothStand ns result (step ns p b) }
+{
+    if !is_of_class(class, b) {
+        return None;
+    }
+    Some(TagPart::Elements {
+        no,
+        fixed: fixed + 1,
+        stars,
+        part,
+    })
+}
+
+// What the next byte makes of part of a star element of at most so many bytes.
+fn step_star(no: TagNo, fixed: usize, stars: usize, part: usize, most: u8, b: u8) -> Option<TagPart>
+    requires whole { length (classes no) ≤ fixed }
+    requires more { stars < length (maxima no) }
+    requires room { stars < 2 ^ 63 }
+    requires most { most ≡ slice_index (maxima no) stars }
+    ensures { (ns : List ℕ) (p : Progress) → StandsFor ns (TagPart.Elements no fixed stars part) p → BothStand ns result (step ns p b) }
+{
+    if b == b'*' {
+        return Some(TagPart::Elements {
+            no,
+            fixed,
+            stars: stars + 1,
+            part: 0,
+        });
+    }
+    if !is_text(b) || usize::from(most) <= part {
+        return None;
+    }
+    Some(TagPart::Elements {
+        no,
+        fixed,
+        stars,
+        part: part + 1,
+    })
 }
 
 // A tag may end after so many of its fixed bytes, of its closed star elements, and of the bytes of a further one.
@@ -316,7 +375,7 @@ pub(crate) fn may_end(no: TagNo, fixed: usize, stars: usize, part: usize) -> boo
     ensures { (fs last : List ℕ) (ss : List (List ℕ)) → fixed ≡ length fs → stars ≡ length ss → part ≡ length last
         → result ≡ may_end (Inside no fs ss last) }
 {
-    let length = sized_layout(no).length;
+    let length = sized_layout(no).classes.len();
     if fixed < length {
         false
     } else if part == 0 {

@@ -4,22 +4,22 @@
 /// holds the greatest length of each star element.
 pub struct Layout {
     pub fixed: &'static [(u8, u8)],
-    // How many bytes the fixed elements have together.
-    pub(crate) length: usize,
+    // The class of each byte of the fixed elements.
+    pub(crate) classes: &'static [u8],
     pub stars: &'static [u8],
 }
 
 // Version, test or production, duplication, status.
 pub(crate) static DISPOSITION: Layout = Layout {
     fixed: &[(b't', 2), (b't', 1), (b't', 1), (b't', 1)],
-    length: 5,
+    classes: b"ttttt",
     stars: &[],
 };
 
 // Month and day, hour and minute, application.
 pub(crate) static RECEIPT: Layout = Layout {
     fixed: &[(b'n', 4), (b'n', 4), (b't', 4)],
-    length: 12,
+    classes: b"nnnnnnnntttt",
     stars: &[],
 };
 
@@ -33,125 +33,125 @@ pub(crate) static OUTPUT_IDENTIFIER: Layout = Layout {
         (b'n', 4),
         (b't', 4),
     ],
-    length: 34,
+    classes: b"nnnnnnnnttttttttnnnnnnnnnnnnnntttt",
     stars: &[],
 };
 
 // Category and code; description.
 pub(crate) static ERROR: Layout = Layout {
     fixed: &[(b't', 1), (b'n', 3)],
-    length: 4,
+    classes: b"tnnn",
     stars: &[35],
 };
 
 // Version, correlation, test or production, duplication.
 pub(crate) static SENDER_SUPPLIED: Layout = Layout {
     fixed: &[(b't', 2), (b't', 8), (b't', 1), (b't', 1)],
-    length: 12,
+    classes: b"tttttttttttt",
     stars: &[],
 };
 
 // Type, subtype.
 pub(crate) static TYPE_AND_SUBTYPE: Layout = Layout {
     fixed: &[(b'n', 2), (b'n', 2)],
-    length: 4,
+    classes: b"nnnn",
     stars: &[],
 };
 
 // Cycle date, source, number.
 pub(crate) static INPUT_IDENTIFIER: Layout = Layout {
     fixed: &[(b'n', 8), (b't', 8), (b'n', 6)],
-    length: 22,
+    classes: b"nnnnnnnnttttttttnnnnnn",
     stars: &[],
 };
 
 // Cents.
 pub(crate) static AMOUNT: Layout = Layout {
     fixed: &[(b'n', 12)],
-    length: 12,
+    classes: b"nnnnnnnnnnnn",
     stars: &[],
 };
 
 // A bank's number; its short name.
 pub(crate) static BANK: Layout = Layout {
     fixed: &[(b'n', 9)],
-    length: 9,
+    classes: b"nnnnnnnnn",
     stars: &[18],
 };
 
 // A reference.
 pub(crate) static REFERENCE: Layout = Layout {
     fixed: &[],
-    length: 0,
+    classes: b"",
     stars: &[16],
 };
 
 // The identifier of an earlier message.
 pub(crate) static PREVIOUS: Layout = Layout {
     fixed: &[],
-    length: 0,
+    classes: b"",
     stars: &[22],
 };
 
 // Business function code; transaction type.
 pub(crate) static FUNCTION: Layout = Layout {
     fixed: &[(b't', 3)],
-    length: 3,
+    classes: b"ttt",
     stars: &[3],
 };
 
 // Identification code; identifier, name, three lines.
 pub(crate) static PARTY: Layout = Layout {
     fixed: &[(b't', 1)],
-    length: 1,
+    classes: b"t",
     stars: &[34, 35, 35, 35, 35],
 };
 
 // A bank's number.
 pub(crate) static ACCOUNT: Layout = Layout {
     fixed: &[(b'n', 9)],
-    length: 9,
+    classes: b"nnnnnnnnn",
     stars: &[],
 };
 
 // Free text.
 pub(crate) static FOUR_LINES: Layout = Layout {
     fixed: &[],
-    length: 0,
+    classes: b"",
     stars: &[35, 35, 35, 35],
 };
 
 // Information for one of the banks.
 pub(crate) static NOTICE: Layout = Layout {
     fixed: &[],
-    length: 0,
+    classes: b"",
     stars: &[30, 33, 33, 33, 33, 33],
 };
 
 // Advice code; lines.
 pub(crate) static ADVICE: Layout = Layout {
     fixed: &[(b't', 3)],
-    length: 3,
+    classes: b"ttt",
     stars: &[26, 33, 33, 33, 33, 33],
 };
 
 // Method of payment; a line.
 pub(crate) static METHOD: Layout = Layout {
     fixed: &[(b't', 5)],
-    length: 5,
+    classes: b"ttttt",
     stars: &[30],
 };
 
 // Free text.
 pub(crate) static SIX_LINES: Layout = Layout {
     fixed: &[],
-    length: 0,
+    classes: b"",
     stars: &[35, 35, 35, 35, 35, 35],
 };
 
 // Free text.
 pub(crate) static TWELVE_LINES: Layout = Layout {
     fixed: &[],
-    length: 0,
+    classes: b"",
     stars: &[35, 35, 35, 35, 35, 35, 35, 35, 35, 35, 35, 35],
 };

@@ -1,29 +1,26 @@
-use Rattle.std.proofs.Common.{ℕ, length, Bool, List, drop, subst, ap, ◌∙◌, arith}
-use Rattle.std.proofs.lemmas.List.{length-drop}
-use Rattle.faim_message.specs.Partial.{Moves}
-use Rattle.faim_message.proofs.PartialLemmas.{read_more, read_stops}
+use Rattle.std.proofs.Common.{◌≡◌, ℕ, ◌+◌, ◌++◌, Bool, List, length, get_or, sym, subst, arith}
+use Rattle.faim_message.specs.Refusal.{StopsAt}
+use Rattle.faim_message.specs.Stages.{next}
+use Rattle.faim_message.specs.Partial.{HasRead, Follows}
+use Rattle.faim_message.proofs.PartialLemmas.{byte_read, byte_stops, one_byte}
 use Rattle.faim_message.proofs.partial.MessagePart.read.Goals as goal
 
-pub returns-then-not-on-clause-stops : goal.returns-then-not-on-clause-stops
-returns-then-not-on-clause-stops c form bytes h lt =
-    let piece = c.args.piece.now in
-    let a = c.loop-count.count in
-    let k = c.read_some-length.result.0 in
-    (read_stops c.loop-count.self c.read_some-length.new.self form bytes piece a k (omega arith) (c.loop-count.invariant.read form bytes h) (λ s stands.
-    let P : List ℕ → Type 0 = λ xs. Moves c.read_some-length.new.self form s xs k c.read_some-length.result.1 in
-    let Q : Bool → Type 0 = λ on. Moves c.read_some-length.new.self form s (drop a piece) k on in
-    subst Q c.if-not-on.true (subst P c.after.ensures (c.read_some-length.ensures.goes form s stands)))).1
+pub returns-then-read_byte-clause-read : goal.returns-then-read_byte-clause-read
+returns-then-read_byte-clause-read c form bytes h whole =
+    let new = c.read_byte.new.self in
+    let b = get_or c.args.piece.now 0 0 in
+    let P : List ℕ → Type 0 = λ l. HasRead new form (bytes ++ l) in
+    subst P (one_byte c.args.piece.now (sym whole)) (byte_read c.args.self.now new form bytes b h (λ s stands.
+    let Q : Bool → Type 0 = λ on. Follows new form on (next form s b) in
+    subst Q c.if-read_byte.true (c.read_byte.ensures.goes form s stands)))
 
-pub loop-count-preserved : goal.loop-count-preserved
-loop-count-preserved c = record {
-  form_is = c.read_some-length.ensures.form ∙ c.loop-count.invariant.form_is;
-  within = omega (arith, c.read_some-length.ensures.within, ap length c.after.ensures, length-drop c.loop-count.count c.args.piece.now);
-  read = λ form bytes h.
-      let piece = c.args.piece.now in
-      let a = c.loop-count.count in
-      let k = c.read_some-length.result.0 in
-      read_more c.loop-count.self c.read_some-length.new.self form bytes piece a k (c.loop-count.invariant.read form bytes h) (λ s stands.
-      let P : List ℕ → Type 0 = λ xs. Moves c.read_some-length.new.self form s xs k c.read_some-length.result.1 in
-      let Q : Bool → Type 0 = λ on. Moves c.read_some-length.new.self form s (drop a piece) k on in
-      subst Q c.if-not-on.false (subst P c.after.ensures (c.read_some-length.ensures.goes form s stands)));
-}
+pub returns-else-read_byte-clause-stops : goal.returns-else-read_byte-clause-stops
+returns-else-read_byte-clause-stops c form bytes h lt =
+    let new = c.read_byte.new.self in
+    let piece = c.args.piece.now in
+    let b = get_or piece 0 0 in
+    let one : length piece ≡ 1 = omega (arith, c.if-piece-ne1.false) in
+    let P : List ℕ → Type 0 = λ l. StopsAt form (bytes ++ l) (length bytes + 0) in
+    subst P (one_byte piece one) (byte_stops c.args.self.now new form bytes b h (λ s stands.
+    let Q : Bool → Type 0 = λ on. Follows new form on (next form s b) in
+    subst Q c.if-read_byte.false (c.read_byte.ensures.goes form s stands)))

@@ -1,7 +1,7 @@
 use Rattle.std.proofs.Common.{◌≡◌, ◌≤◌, ◌-◌, ◌++◌, List, ℕ, length, take}
 use Rattle.faim_message.specs.declared.form.Form.{Form}
 use Rattle.faim_message.specs.Partial.{form_of, HasRead}
-use Rattle.faim_message.proofs.partial.MessagePart.read.Given as goal
+use Rattle.faim_message.proofs.partial.MessagePart.read_piece.Given as goal
 
 abbrev pub invariant-loop-count : goal.invariant-loop-count
 invariant-loop-count l = record {
