@@ -8,7 +8,7 @@ use faim_base::{Endpoint, Moment, NoMemory};
 use faim_model::HostOutcome;
 use host_core::HostState;
 use host_ledger::{Account, Config, endpoints_of};
-use host_node::{retrieve, submit};
+use host_turns::{retrieve, submit};
 use std::alloc::Global;
 
 // The report of a script.

@@ -1,5 +1,9 @@
-pub mod NumberedTurns
-pub mod Appended
-pub mod BreakBytes
-pub mod GivenItems
-pub mod ItemPayloads
+mod AsNodes
+pub mod AtPlaces
+pub mod CycleFrames
+pub mod GivenAgain
+pub mod Handled
+pub mod Newest
+pub mod NextEntries
+mod Secured
+pub mod StepSides

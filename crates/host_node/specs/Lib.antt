@@ -1,2 +1,9 @@
-pub mod Reading
-pub mod HostTags
+pub mod Faults
+pub mod Following
+pub mod Handling
+pub mod HostList
+pub mod HostReadOnce
+pub mod Node
+pub mod Preparing
+pub mod Resending
+pub mod Securing

@@ -1,13 +1,18 @@
-//! A host as it stands at the end of its lines: its turn at what comes from one, and the payloads that it sends, so far without a
-//! journal.
+//! A host on its site: a journal keeps its list, and its frames are sent once the record that they rest on is secured.
 #![tactic(auto)]
 
-mod payloads;
-mod reading;
-mod service_tags;
-#[cfg(test)]
-mod tests;
-mod turns;
+mod faults;
+mod following;
+mod handling;
+mod host_list;
+mod node;
+mod preparing;
+mod resending;
+mod securing;
+mod submitting;
 
-pub use payloads::{ack_payload, output_payload, turned_payload};
-pub use turns::{retrieve, submit};
+pub use faults::HostFault;
+pub use host_list::HostList;
+pub use host_turns::{ack_payload, output_payload, turned_payload};
+pub use journaled_list::OpenFault;
+pub use node::HostNode;
