@@ -4,7 +4,7 @@ ghost use Rattle.std.specs.Io.KnownBytes.{Keeps};
 ghost use Rattle.faim_top.specs.declared.command.Command.{Command};
 ghost use Rattle.faim_top.specs.declared.status.Status.TheVariants as statuses;
 ghost use Rattle.faim_top.specs.Words.{command_of, texts};
-ghost use Rattle.faim_top.specs.Grammar.{script_of};
+ghost use Rattle.world_text.specs.Grammar.{script_of};
 ghost use Rattle.faim_top.specs.Seen.{LosesAtMost, seen};
 ghost use Rattle.faim_top.specs.Ends.{Ended, most_read};
 ghost use Rattle.faim_top.specs.Sources.{TakesLittleBeyond};

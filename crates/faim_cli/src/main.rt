@@ -7,8 +7,11 @@ ghost use Rattle.faim_top.specs.ExitCodes.{code_of};
 
 mod adapters;
 mod between;
+mod faults;
+mod file_site;
 #[cfg(test)]
 mod tests;
+mod wall_clock;
 
 use between::run_between;
 use faim_top::{Status, words_after_name};

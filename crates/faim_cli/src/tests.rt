@@ -6,6 +6,9 @@ use faim_top::Status;
 use site_core::{Sink, Source};
 use std::test::Fail;
 
+mod clocks;
+mod files;
+
 #[test]
 fn a_source_gives_what_its_reader_gives(rt: HostRuntime) {
     let mut source = StdSource::new(b"message".as_slice());

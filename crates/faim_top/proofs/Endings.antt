@@ -14,16 +14,13 @@ use Rattle.faim_message.specs.Refusal.{Begins, StopsAt, Refuses}
 use Rattle.faim_edits.specs.Printing.{table_text}
 use Rattle.faim_top.specs.declared.command.Command.{Command}
 use Rattle.faim_top.specs.declared.command.Command.TheVariants.{Check, Table, Replay}
-use Rattle.faim_top.specs.declared.script.Script.{Script}
-use Rattle.faim_top.specs.declared.script.ScriptFault.{ScriptFault}
-use Rattle.faim_top.specs.declared.script.Why.TheVariants.{Size}
 use Rattle.faim_top.specs.declared.status.Status.{Status}
 use Rattle.faim_top.specs.declared.status.Status.TheVariants.{Done, Refused, ReadFault, WriteFault}
 use Rattle.faim_top.specs.declared.status.Reason.{Reason}
 use Rattle.faim_top.specs.declared.status.Reason.TheVariants as reasons
-use Rattle.faim_top.specs.Checks.{IsInput, IsRefused, failed_edit, message_status, message_text, refusal_line}
-use Rattle.faim_top.specs.Grammar.{script_of, script_in, size_limit}
-use Rattle.faim_top.specs.Lines.{lines_of}
+use Rattle.faim_top.specs.Checks.{IsInput, IsRefused, failed_edit, message_status, message_text}
+use Rattle.world_text.specs.Report.{refusal_line}
+use Rattle.world_text.specs.Grammar.{script_of}
 use Rattle.faim_top.specs.Seen.{Seen}
 use Rattle.faim_top.specs.Sources.{AnswersSource}
 use Rattle.faim_top.specs.Ends.{Ended, Answers, Checked, AppendsPart, IsAnswered, Streams, Writes, WritesPart, ReadToEnd, Reads, input_of, most_read, answer_text, answer_status}

@@ -1,10 +1,6 @@
-pub mod LineCuts
-pub mod WordCuts
 pub mod Pieces
 pub mod Tried
 pub mod Served
-pub mod Magnitudes
-pub mod SoundScripts
 pub mod Counted
 pub mod Endings
 pub mod FedLemmas

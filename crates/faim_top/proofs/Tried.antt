@@ -12,7 +12,8 @@ use Rattle.faim_top.specs.declared.status.Status.{Status}
 use Rattle.faim_top.specs.declared.status.Status.TheVariants.{Done, Refused}
 use Rattle.faim_top.specs.declared.status.Reason.{Reason}
 use Rattle.faim_top.specs.declared.status.Reason.TheVariants as reasons
-use Rattle.faim_top.specs.Checks.{failed_edit, message_status, message_text, refusal_line}
+use Rattle.faim_top.specs.Checks.{failed_edit, message_status, message_text}
+use Rattle.world_text.specs.Report.{refusal_line}
 use Rattle.faim_top.specs.Ends.{Checked}
 use Rattle.faim_top.specs.Seen.{Seen}
 use Rattle.faim_top.specs.Sources.{AnswersSource, RefusesSource}

@@ -1,19 +1,18 @@
 -- The answer to all that a source had, where a command reads a script or nothing.
-use Rattle.std.proofs.Common.{◌≡◌, ◌⊎◌, inl, inr, ℕ, ◌+◌, ◌<◌, Bool, true, false, List, [], ◌++◌, length, length-append, append-nil, Option, Some, None, sym, ◌∙◌, ap, refl, subst, arith}
-use Rattle.std.specs.Prelude.{Result, Ok, Err, IfSome, nat_le, if◌then◌else◌}
+use Rattle.std.proofs.Common.{◌≡◌, ◌⊎◌, inl, inr, ℕ, ◌+◌, List, [], ◌++◌, length, length-append, append-nil, Option, Some, None, sym, ◌∙◌, ap, subst, arith}
+use Rattle.std.specs.Prelude.{Result, Ok, Err, IfSome}
 use Rattle.std.specs.Io.KnownBytes.{Consumes, IsAtEnd}
 use Rattle.std.proofs.KnownBytes.{Consumes-nil}
-use Rattle.std.proofs.lemmas.Bool.Decides.{nat_tests}
 use Rattle.faim_top.specs.declared.command.Command.TheVariants.{Table, Replay}
-use Rattle.faim_top.specs.declared.script.Script.{Script}
-use Rattle.faim_top.specs.declared.script.ScriptFault.{ScriptFault}
-use Rattle.faim_top.specs.declared.script.Why.TheVariants.{Size}
+use Rattle.world_text.specs.declared.script.Script.{Script}
+use Rattle.world_text.specs.declared.script.ScriptFault.{ScriptFault}
+use Rattle.world_text.specs.declared.script.Why.TheVariants.{Size}
 use Rattle.faim_top.specs.declared.status.Status.{Status}
 use Rattle.faim_top.specs.declared.status.Status.TheVariants.{Done, Refused}
 use Rattle.faim_top.specs.declared.status.Reason.{Reason}
 use Rattle.faim_top.specs.declared.status.Reason.TheVariants as reasons
-use Rattle.faim_top.specs.Grammar.{script_of, script_in, size_limit}
-use Rattle.faim_top.specs.Lines.{lines_of}
+use Rattle.world_text.specs.Grammar.{script_of, size_limit}
+use Rattle.world_text.proofs.SizeLimits.{too_long}
 use Rattle.faim_top.specs.Seen.{Seen, LosesAtMost}
 use Rattle.faim_top.specs.Sources.{AnswersSource}
 use Rattle.faim_top.specs.Ends.{Answers, answer_text, answer_status}
@@ -28,14 +27,6 @@ tabled left status bytes h = record {
   whole = h;
   proper = inl (h.0, tt);
 }
-
--- a text that is longer than a script is refused for its size
-over_limit : (b : Bool) (read : Result Script ScriptFault) → b ≡ false → (if b then read else Err (record { line = 0; why = Size })) ≡ Err (record { line = 0; why = Size })
-over_limit true read e = absurd cc
-over_limit false read e = refl
-
-too_long : (text : List ℕ) → size_limit < length text → script_of text ≡ Err (record { line = 0; why = Size })
-too_long text long = over_limit (nat_le (length text) size_limit) (script_in (lines_of text)) (grind (arith, nat_tests))
 
 answered_left : (left rest : Option (List ℕ)) (text : List ℕ) (status : Status) (bytes : List ℕ) → Consumes left rest text → IsAtEnd rest ⊎ (length text ≡ size_limit + 1)
     → Answers Replay text status bytes → IfSome left (λ whole. Answers Replay whole status bytes)

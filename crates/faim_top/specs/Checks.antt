@@ -1,8 +1,7 @@
 -- What a check of an input says (docs/FORMATS.md, "Checks").
 use Rattle.std.specs.Prelude.{◌≡◌, ◌≢◌, ℕ, ◌==◌, List, [], ◌∷◌, ◌++◌, codes, Option, Some, None, if◌then◌else◌}
-use Rattle.std.specs.Fmt.{decimal}
 use Rattle.faim_base.specs.declared.judgement.Refused.{Refused}
-use Rattle.faim_base.specs.declared.judgement.Refused.TheVariants.{Byte, Cut, Missing, NoMemory}
+use Rattle.faim_base.specs.declared.judgement.Refused.TheVariants.{NoMemory}
 use Rattle.faim_message.specs.declared.form.Form.TheVariants.{Input}
 use Rattle.faim_base.specs.Refusals.{edit}
 use Rattle.faim_message.specs.Spelling.{Content, Spells}
@@ -27,13 +26,6 @@ pub record IsRefused (text : List ℕ) (why : Refused) : Type 0 where
 -- a line, and the message after it
 abbrev pub accepted_text : List ℕ → List ℕ
 accepted_text message = codes "accepted" ++ 10 ∷ message
-
--- the line of a refusal: a place in bytes from 0, or a tag's number
-abbrev pub refusal_line : Refused → List ℕ
-refusal_line (Byte place) = codes "byte " ++ decimal place ++ 10 ∷ []
-refusal_line Cut = codes "cut" ++ 10 ∷ []
-refusal_line (Missing number) = codes "missing " ++ decimal number ++ 10 ∷ []
-refusal_line NoMemory = []
 
 -- the line on which a message is tried: production where it says so, and else test
 abbrev pub env_of : Content → ℕ

@@ -6,14 +6,14 @@ use Rattle.faim_base.specs.declared.judgement.Refused as refusals
 use Rattle.faim_edits.specs.Printing.{table_text}
 use Rattle.faim_top.specs.declared.command.Command.{Command}
 use Rattle.faim_top.specs.declared.command.Command.TheVariants.{Check, Table, Replay}
-use Rattle.faim_top.specs.declared.script.Script.{Script}
-use Rattle.faim_top.specs.declared.script.ScriptFault.{ScriptFault}
+use Rattle.world_text.specs.declared.script.Script.{Script}
+use Rattle.world_text.specs.declared.script.ScriptFault.{ScriptFault}
 use Rattle.faim_top.specs.declared.status.Status.{Status}
 use Rattle.faim_top.specs.declared.status.Status.TheVariants.{Done, Usage, Refused, NoMemory, ReadFault, WriteFault}
 use Rattle.faim_top.specs.declared.status.Reason.TheVariants as reasons
-use Rattle.faim_top.specs.Checks.{IsInput, IsRefused, failed_edit, message_text, message_status, refusal_line}
-use Rattle.faim_top.specs.Grammar.{script_of, size_limit}
-use Rattle.faim_top.specs.Report.{fault_line}
+use Rattle.faim_top.specs.Checks.{IsInput, IsRefused, failed_edit, message_text, message_status}
+use Rattle.world_text.specs.Grammar.{script_of, size_limit}
+use Rattle.world_text.specs.Report.{fault_line, refusal_line}
 use Rattle.faim_top.specs.Replay.{report_of}
 use Rattle.faim_top.specs.Seen.{Seen}
 

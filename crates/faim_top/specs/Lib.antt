@@ -1,10 +1,5 @@
 pub mod Words
-pub mod Lines
-pub mod Fields
-pub mod Grammar
-pub mod Report
 pub mod Replay
-pub mod Reading
 pub mod Checks
 pub mod Seen
 pub mod Ends

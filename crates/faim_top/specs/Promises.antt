@@ -18,7 +18,7 @@ use Rattle.faim_model.specs.Outputs.{outputs, count_under}
 use Rattle.faim_model.specs.Submissions.{Numbered, submission}
 use Rattle.faim_model.specs.Lawful.{Lawful, numbers_under, one_to, times_posted}
 use Rattle.faim_model.specs.Turns.{stays, submitted}
-use Rattle.faim_top.specs.declared.script.Script.{Script}
+use Rattle.world_text.specs.declared.script.Script.{Script}
 use Rattle.faim_top.specs.Replay.{entries_after, entries_of, opening_moment}
 
 -- a text is a message whose identifier an entry has

@@ -8,14 +8,14 @@ use Rattle.faim_model.specs.declared.decisions.HostOutcome.{HostOutcome}
 use Rattle.host_ledger.specs.Sums.{balance, cycle}
 use Rattle.faim_model.specs.Outputs.{outputs}
 use Rattle.faim_model.specs.Turns.{HostTurn, adds_to, submitted, retrieved_turn}
-use Rattle.faim_top.specs.declared.script.Script.{Script}
-use Rattle.faim_top.specs.declared.script.Event.{Event}
-use Rattle.faim_top.specs.declared.script.Act.{Act}
-use Rattle.faim_top.specs.declared.script.Act.TheVariants.{Clock, Submit, Retrieve}
-use Rattle.faim_top.specs.declared.outcome.Outcome.{Outcome}
-use Rattle.faim_top.specs.declared.outcome.Outcome.TheVariants.{Host}
-use Rattle.faim_top.specs.declared.outcome.Closing.{Closing}
-use Rattle.faim_top.specs.Report.{outcome_line, closing_text}
+use Rattle.world_text.specs.declared.script.Script.{Script}
+use Rattle.world_text.specs.declared.script.Event.{Event}
+use Rattle.world_text.specs.declared.script.Act.{Act}
+use Rattle.world_text.specs.declared.script.Act.TheVariants.{Clock, Submit, Retrieve}
+use Rattle.world_text.specs.declared.outcome.Outcome.{Outcome}
+use Rattle.world_text.specs.declared.outcome.Outcome.TheVariants.{Host}
+use Rattle.world_text.specs.declared.outcome.Closing.{Closing}
+use Rattle.world_text.specs.Report.{outcome_line, closing_text}
 
 -- the clock's reading at first: the first minute of the opening date
 abbrev pub opening_moment : Config → ℕ

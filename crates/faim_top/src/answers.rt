@@ -1,24 +1,24 @@
 // What a command answers to an input.
 ghost use Rattle.std.specs.Prelude.{◌≡◌, ◌≢◌, ◌⊎◌, Err, IfOk};
-ghost use Rattle.faim_top.specs.Grammar.{script_of};
+ghost use Rattle.world_text.specs.Grammar.{script_of};
 ghost use Rattle.faim_top.specs.Ends.{Reads, answer_text, answer_status, most_read};
 ghost use Rattle.faim_top.specs.Seen.{CountsFaults, LosesAtMost, seen};
 ghost use Rattle.faim_top.specs.Sources.{AnswersSource, TakesLittleBeyond};
-ghost use Rattle.faim_top.specs.Checks.{accepted_text, env_of, failed_edit, edit_line, message_status, message_text, refusal_line};
+ghost use Rattle.faim_top.specs.Checks.{accepted_text, env_of, failed_edit, edit_line, message_status, message_text};
+ghost use Rattle.world_text.specs.Report.{refusal_line};
 ghost use Rattle.faim_message.specs.Spelling.{message_spelling};
 ghost use Rattle.faim_edits.specs.Printing.{table_text};
 
 use crate::feeding::{Unread, read_message};
 use crate::play::report;
-use crate::printing::{print_fault, print_refused};
-use crate::reader::SIZE_LIMIT;
 use crate::streams::{ReadEnd, read_up_to};
-use crate::{Command, Reason, ScriptRefused, Status, read_script};
+use crate::{Command, Reason, Status};
 use faim_base::{LONGEST_MESSAGE, NoMemory, Refused};
 use faim_edits::{EditNo, first_failed, print_edit, print_table, test_or_production};
 use faim_message::{Form, Message, encode};
 use site_core::Source;
 use std::alloc::Global;
+use world_text::{SIZE_LIMIT, ScriptRefused, print_fault, print_refused, read_script};
 
 // The line before a message that fails no edit.
 const ACCEPTED: &[u8] = b"accepted\n";

@@ -1,11 +1,10 @@
 // The promises over whole runs, and what every input has. Each call does nothing: its contract is the law.
-ghost use Rattle.std.specs.Prelude.{◌≡◌, ℕ, List, Ok};
+ghost use Rattle.std.specs.Prelude.{◌≡◌, ℕ, List};
 ghost use Rattle.host_ledger.specs.Soundness.{IsConfig};
-ghost use Rattle.faim_top.specs.declared.script.Script.{Script};
+ghost use Rattle.world_text.specs.declared.script.Script.{Script};
 ghost use Rattle.faim_top.specs.declared.command.Command.{Command};
 ghost use Rattle.faim_top.specs.declared.status.Status.{Status};
 ghost use Rattle.faim_top.specs.Ends.{Answers, IsAnswered};
-ghost use Rattle.faim_top.specs.Grammar.{script_of};
 ghost use Rattle.faim_top.specs.Promises.{KeepsPromises};
 
 use faim_message::{
@@ -15,15 +14,6 @@ use faim_model::{
     floors_are_kept, money_is_conserved, numbered_in_order, other_text_is_turned, posted_once,
     turns_stay_lawful, verdict_stands,
 };
-use host_ledger::one_account_more;
-
-/// The configuration of every script is sound: its accounts have distinct numbers whose check digits hold, none of them
-/// is served at `OPERATOR`, and there are no more of them and of their endpoints than there may be.
-pub fn scripts_are_sound()
-    ensures { (text : List ℕ) (s : Script) → script_of text ≡ Ok s → IsConfig s.config }
-{
-    one_account_more();
-}
 
 /// Whatever a script submits, in whatever order and how often: after each event no two entries share an identifier, the
 /// balances add up to the openings and none is lower than its floor or its opening, the output numbers of each endpoint

@@ -3,13 +3,15 @@ ghost use Rattle.std.specs.Prelude.{◌≡◌, ◌++◌, IfOk, OnOk};
 ghost use Rattle.host_ledger.specs.Soundness.{IsConfig};
 ghost use Rattle.faim_top.specs.Replay.{act_turn, after_turn, outcome_of, next_reading, entries_after, outcomes_of, outcome_lines, closing_of, balances_of, output_counts, opening_moment, report_of};
 
-use crate::{Act, Balances, Closing, Counts, Event, Outcome, Script, print_closing, print_outcome};
 use faim_base::{Endpoint, Moment, NoMemory};
 use faim_model::HostOutcome;
 use host_core::HostState;
 use host_ledger::{Account, Config, endpoints_of};
 use host_turns::{retrieve, submit};
 use std::alloc::Global;
+use world_text::{
+    Act, Balances, Closing, Counts, Event, Outcome, Script, print_closing, print_outcome,
+};
 
 // The report of a script.
 pub(crate) fn report(alloc: Global, script: Script) -> Result<Vec<u8>, NoMemory>

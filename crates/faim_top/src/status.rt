@@ -3,10 +3,10 @@ ghost use Rattle.std.specs.Prelude.{◌≡◌};
 ghost use Rattle.std.specs.Option.{option_copied};
 ghost use Rattle.faim_top.specs.ExitCodes.{code_of, error_line_of, status_without_words};
 
-use crate::ScriptFault;
 use faim_base::Refused;
 use faim_edits::EditNo;
 use std::io::ErrorKind;
+use world_text::ScriptFault;
 
 /// Why an input was refused.
 #[derive(Clone, Copy, Debug, PartialEq, Eq)]

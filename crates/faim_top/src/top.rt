@@ -3,7 +3,7 @@ ghost use Rattle.std.specs.Prelude.{◌≡◌, ◌≢◌, ◌↔◌, Some, IsNon
 ghost use Rattle.std.specs.Io.KnownBytes.{Keeps};
 ghost use Rattle.site_core.specs.Counts.{Rose};
 ghost use Rattle.faim_top.specs.Words.{command_of, texts};
-ghost use Rattle.faim_top.specs.Grammar.{script_of};
+ghost use Rattle.world_text.specs.Grammar.{script_of};
 ghost use Rattle.faim_top.specs.Seen.{CountsFaults, LosesAtMost, seen};
 ghost use Rattle.faim_top.specs.Ends.{Ended, IsAnswered, input_of, most_read};
 ghost use Rattle.faim_top.specs.Sources.{TakesLittleBeyond};
@@ -11,9 +11,10 @@ ghost use Rattle.faim_top.specs.Promises.{KeepsPromises};
 
 use crate::answers::answer_to;
 use crate::streams::{ReadEnd, write_all};
-use crate::{Command, Status, promises_kept, scripts_are_sound};
+use crate::{Command, Status, promises_kept};
 use site_core::{Sink, Source};
 use std::alloc::Global;
+use world_text::scripts_are_sound;
 
 /// Does all that the program does: what the words ask for, from the input to what is written (docs/FORMATS.md,
 /// "Commands").

@@ -1,13 +1,9 @@
 use super::{ALPHA, BETA, FIRST, HOST, Streams, owned, run_over, text_of};
-use crate::{
-    Balances, Closing, Counts, Outcome, Reason, Script, ScriptFault, Status, Why, print_closing,
-    print_outcome, read_script, words_after_name,
-};
-use faim_base::{Aba, CycleDate, Endpoint, Places, Reject};
-use faim_model::HostOutcome;
-use host_ledger::Config;
+use crate::{Reason, Status, words_after_name};
+use faim_base::Places;
 use std::io::ErrorKind;
 use std::test::Fail;
+use world_text::{ScriptFault, Why};
 
 #[test]
 fn other_words_are_no_command(rt: HostRuntime) -> Result<(), Fail> {
@@ -142,49 +138,5 @@ fn the_name_of_the_program_is_no_word(rt: HostRuntime) -> Result<(), Fail> {
         _ => assert!(rt; false),
     }
     assert!(rt; words_after_name(&[]).is_empty());
-    Ok(())
-}
-
-#[test]
-fn scripts_are_read_and_reports_printed(rt: HostRuntime) -> Result<(), Fail> {
-    let text = text_of(rt.alloc(), &[HOST, ALPHA, "begin", "submit BANKA001 HELLO"])?;
-    let Script { config, events } = read_script(rt.alloc(), text.as_slice())?;
-    let Config { date, accounts, .. } = config;
-    assert_eq!(rt; date.get(), 8_767);
-    assert_eq!(rt; accounts.as_slice().len(), 1);
-    assert_eq!(rt; events.as_slice().len(), 1);
-    let mut out = Vec::new(rt.alloc());
-    let why = Reject {
-        category: b'X',
-        code: 201,
-    };
-    let turned = Outcome::Host(HostOutcome::TurnedAway(why));
-    print_outcome(rt.alloc(), 12, &turned, &mut out)?;
-    let cycle = CycleDate::read(b"20240102").ok_or("a date")?;
-    let rolled = Outcome::Host(HostOutcome::Rolled(cycle));
-    print_outcome(rt.alloc(), 13, &rolled, &mut out)?;
-    let not_later = Outcome::Host(HostOutcome::NotLater { current: cycle });
-    print_outcome(rt.alloc(), 14, &not_later, &mut out)?;
-    print_outcome(
-        rt.alloc(),
-        15,
-        &Outcome::Host(HostOutcome::Strange),
-        &mut out,
-    )?;
-    let mut balances = Balances::new(rt.alloc());
-    let aba = Aba::read(b"021000021").ok_or("an account")?;
-    balances.push((aba, -5))?;
-    let mut outputs = Counts::new(rt.alloc());
-    let endpoint = Endpoint::read(b"BANKA001").ok_or("an endpoint")?;
-    outputs.push((endpoint, 7))?;
-    let closing = Closing {
-        cycle,
-        balances,
-        outputs,
-    };
-    print_closing(rt.alloc(), &closing, &mut out)?;
-    let want =
-        b"12 turned X201\n13 rolled 20240102\n14 notlater 20240102\n15 strange\ncycle 20240102\nbalance 021000021 -5\noutputs BANKA001 7\nend\n";
-    assert_eq!(rt; out.as_slice(), want.as_slice());
     Ok(())
 }

@@ -1,12 +1,12 @@
 // A configuration and an entry through their spellings and a journal, and back.
 use super::{ALPHA, BETA, HOST, bytes, text_of};
-use crate::read_script;
 use entry_codec::{read_config, read_entry, spell_config, spell_entry};
 use faim_base::{Bytes, Places};
 use site_core::{MemSite, Site};
 use std::alloc::Global;
 use std::test::Fail;
 use torn_journal::{Visit, VisitFault, create, frame_payload, resume};
+use world_text::{read_config_text, read_script};
 
 // The configuration of HOST, ALPHA and BETA.
 const CONFIG: &[u8] =
@@ -40,11 +40,17 @@ impl Visit for Payloads {
 }
 
 #[test]
-fn a_script_has_the_configuration_of_these_bytes(rt: HostRuntime) -> Result<(), Fail> {
-    let text = text_of(rt.alloc(), &[HOST, ALPHA, BETA, "begin"])?;
-    let script = read_script(rt.alloc(), text.as_slice())?;
-    let mut spelled = Vec::new(rt.alloc());
+fn texts_have_the_configuration_of_these_bytes(rt: HostRuntime) -> Result<(), Fail> {
+    let alloc = rt.alloc();
+    let text = text_of(alloc, &[HOST, ALPHA, BETA, "begin"])?;
+    let script = read_script(alloc, text.as_slice())?;
+    let mut spelled = Vec::new(alloc);
     spell_config(&script.config, &mut spelled)?;
+    assert!(rt; spelled.as_slice() == CONFIG);
+    let text = text_of(alloc, &[HOST, ALPHA, BETA])?;
+    let config = read_config_text(alloc, text.as_slice())?;
+    let mut spelled = Vec::new(alloc);
+    spell_config(&config, &mut spelled)?;
     assert!(rt; spelled.as_slice() == CONFIG);
     Ok(())
 }

@@ -4,9 +4,9 @@ use Rattle.host_ledger.specs.declared.entries.Entry.{Entry}
 use Rattle.faim_model.specs.Submissions.{Numbered, submission}
 use Rattle.faim_model.specs.Lawful.{Lawful}
 use Rattle.faim_model.specs.Turns.{adds_to, submitted}
-use Rattle.faim_top.specs.declared.script.Event.{Event}
-use Rattle.faim_top.specs.declared.script.Act.{Act}
-use Rattle.faim_top.specs.declared.script.Act.TheVariants.{Clock, Submit, Retrieve}
+use Rattle.world_text.specs.declared.script.Event.{Event}
+use Rattle.world_text.specs.declared.script.Act.{Act}
+use Rattle.world_text.specs.declared.script.Act.TheVariants.{Clock, Submit, Retrieve}
 use Rattle.faim_top.specs.Promises.{Promises}
 use Rattle.faim_top.specs.Replay.{act_turn, after_turn, entries_after, next_entries, next_reading, opening_moment}
 use Rattle.faim_top.proofs.laws.promises_kept.Goals as goal

@@ -1,6 +1,6 @@
 use Rattle.std.proofs.Common.{◌≡◌, List, ℕ, Some, ap, sym, ◌∙◌}
-use Rattle.faim_top.specs.declared.script.Act.{Act}
-use Rattle.faim_top.specs.declared.script.Act.TheVariants.{Submit}
+use Rattle.world_text.specs.declared.script.Act.{Act}
+use Rattle.world_text.specs.declared.script.Act.TheVariants.{Submit}
 use Rattle.faim_top.specs.Replay.{act_turn, after_turn, outcome_of}
 use Rattle.faim_top.proofs.play.act.Goals as goal
 

@@ -1,9 +1,9 @@
 use Rattle.std.proofs.Common.{◌≡◌, List, ℕ, Option, Some, None, refl}
 use Rattle.std.specs.Prelude.{Result, Ok, Err, IfSome, IfOk}
 use Rattle.host_ledger.specs.Soundness.{IsConfig}
-use Rattle.faim_top.specs.declared.script.Script.{Script}
-use Rattle.faim_top.specs.declared.script.ScriptFault.{ScriptFault}
-use Rattle.faim_top.specs.Grammar.{script_of}
+use Rattle.world_text.specs.declared.script.Script.{Script}
+use Rattle.world_text.specs.declared.script.ScriptFault.{ScriptFault}
+use Rattle.world_text.specs.Grammar.{script_of}
 use Rattle.faim_top.specs.Promises.{KeepsPromises}
 use Rattle.faim_top.proofs.top.run.Goals as goal
 

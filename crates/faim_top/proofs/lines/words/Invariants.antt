@@ -1,6 +1,0 @@
-use Rattle.std.proofs.Common.{◌≡◌, ◌-◌, ◌++◌, map}
-use Rattle.faim_top.specs.Lines.{words_of}
-use Rattle.faim_top.proofs.lines.words.Given as goal
-
-abbrev pub invariant-loop : goal.invariant-loop
-invariant-loop l = map (λ w. w.now) l.words.items ++ words_of (l.most - l.counter) l.rest ≡ words_of l.most l.line

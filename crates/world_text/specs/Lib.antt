@@ -1,0 +1,5 @@
+pub mod Lines
+pub mod Fields
+pub mod Grammar
+pub mod Report
+pub mod Reading
