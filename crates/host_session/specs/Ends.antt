@@ -1,0 +1,30 @@
+-- How a session ends where one of its parts does.
+use Rattle.journaled_list.specs.declared.faults.OpenFault.{OpenFault}
+use Rattle.journaled_list.specs.declared.faults.OpenFault.TheVariants as opens
+use Rattle.framed_input.specs.declared.ends.InputEnd.{InputEnd}
+use Rattle.framed_input.specs.declared.ends.InputEnd.TheVariants as inputs
+use Rattle.host_node.specs.declared.faults.HostFault.{HostFault}
+use Rattle.host_node.specs.declared.faults.HostFault.TheVariants as hosts
+use Rattle.line_sessions.specs.declared.ends.SessionEnd.{SessionEnd}
+use Rattle.line_sessions.specs.declared.ends.SessionEnd.TheVariants as ends
+
+-- the host isn't resumed
+abbrev pub open_end : OpenFault → SessionEnd
+open_end opens.SiteFault = ends.DiskFault
+open_end opens.LineFault = ends.LineFault
+open_end opens.NoHeader = ends.NoJournal
+open_end (opens.Damaged place) = ends.Damaged place
+open_end opens.NoMemory = ends.NoMemory
+
+-- no frame comes
+abbrev pub input_end : InputEnd → SessionEnd
+input_end inputs.ReadFault = ends.ReadFault
+input_end (inputs.Frame fault) = ends.Frame fault
+input_end inputs.TooLong = ends.TooLong
+
+-- a frame isn't handled
+abbrev pub host_end : HostFault → SessionEnd
+host_end hosts.SiteFault = ends.DiskFault
+host_end hosts.LineFault = ends.LineFault
+host_end (hosts.JournalFull tail need) = ends.JournalFull tail need
+host_end hosts.NoMemory = ends.NoMemory

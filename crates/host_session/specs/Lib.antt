@@ -1,0 +1,6 @@
+pub mod HostPart
+pub mod Views
+pub mod Ends
+pub mod Ending
+pub mod Serving
+pub mod Going

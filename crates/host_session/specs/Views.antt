@@ -1,0 +1,31 @@
+-- What the objects of a session tell, and what came from them.
+use Rattle.std.specs.Prelude.{◌≡◌, ℕ, List, ◌++◌, map, take, Option}
+use Rattle.std.specs.List.{AllByRecursion}
+use Rattle.std.specs.Io.KnownBytes.{Consumes, append_known}
+use Rattle.site_core.specs.Told.{Told}
+use Rattle.link_frames.specs.Frames.{Content as Frame}
+use Rattle.link_frames.specs.Splits.{Splits}
+use Rattle.framed_input.specs.Limits.{greatest_input}
+use Rattle.faim_model.specs.Sessions.{Arrival, IsArrival}
+
+-- the bytes that the source has left, the readings that the clock has given, and what the site did, each where it is told
+pub record View : Type 0 where
+  pub left : Option (List ℕ)
+  pub given : Option (List ℕ)
+  pub site : Option Told
+
+-- the frames of arrivals, and the readings
+abbrev pub frames_of : List Arrival → List Frame
+frames_of arrivals = map (λ a. a.frame) arrivals
+
+abbrev pub readings_of : List Arrival → List ℕ
+readings_of arrivals = map (λ a. a.reading) arrivals
+
+-- these bytes were taken from the source, and these frames arrived, each at the next reading of the clock; they are the first
+-- frames of the input, whatever comes after the bytes
+pub record HasCome (arrivals : List Arrival) (bytes : List ℕ) (old new : View) : Type 0 where
+  pub taken : Consumes old.left new.left bytes
+  pub read : new.given ≡ append_known old.given (readings_of arrivals)
+  pub each : AllByRecursion IsArrival arrivals
+  pub first : (more : List ℕ) (all : List Frame) (rest : List ℕ) → Splits (take greatest_input bytes ++ more) all rest
+      → (later : List Frame) × (all ≡ frames_of arrivals ++ later)
