@@ -12,8 +12,8 @@ use Rattle.faim_message.specs.declared.form.Form.TheVariants.{Input}
 use Rattle.faim_message.specs.Spelling.{Content, Spells, message_spelling}
 use Rattle.faim_message.specs.Refusal.{Begins, StopsAt, Refuses}
 use Rattle.faim_edits.specs.Printing.{table_text}
-use Rattle.faim_top.specs.declared.command.Command.{Command}
-use Rattle.faim_top.specs.declared.command.Command.TheVariants.{Check, Table, Replay}
+use Rattle.faim_top.specs.declared.query.Query.{Query}
+use Rattle.faim_top.specs.declared.query.Query.TheVariants.{Check, Table, Replay}
 use Rattle.faim_top.specs.declared.status.Status.{Status}
 use Rattle.faim_top.specs.declared.status.Status.TheVariants.{Done, Refused, ReadFault, WriteFault}
 use Rattle.faim_top.specs.declared.status.Reason.{Reason}
@@ -47,44 +47,44 @@ begins_short short form bytes b =
     omega (arith, short b.message (message_spelling b.message) (record { sound = b.sound; spelled = refl }), ap length b.goes, length-append bytes b.rest)
 
 -- an answer is no fault
-pub no_fault : (command : Command) (left : Seen (Option (List ℕ))) (status : Status) (bytes : List ℕ) → AnswersSource command left status bytes → ((status ≡ ReadFault) ⊎ (status ≡ WriteFault)) → ⊥
-no_fault command left status bytes h fault = ⊎_elim
-    (λ (e : (status ≡ Done) × ReadToEnd command left.after). let f : status ≡ Done = e.0 in ⊎_elim (λ (r : status ≡ ReadFault). absurd (cc (f, r))) (λ (w : status ≡ WriteFault). absurd (cc (f, w))) fault)
+pub no_fault : (query : Query) (left : Seen (Option (List ℕ))) (status : Status) (bytes : List ℕ) → AnswersSource query left status bytes → ((status ≡ ReadFault) ⊎ (status ≡ WriteFault)) → ⊥
+no_fault query left status bytes h fault = ⊎_elim
+    (λ (e : (status ≡ Done) × ReadToEnd query left.after). let f : status ≡ Done = e.0 in ⊎_elim (λ (r : status ≡ ReadFault). absurd (cc (f, r))) (λ (w : status ≡ WriteFault). absurd (cc (f, w))) fault)
     (λ (e : (why : Reason) × (status ≡ Refused why)). let f : status ≡ Refused e.0 = e.1 in ⊎_elim (λ (r : status ≡ ReadFault). absurd (cc (f, r))) (λ (w : status ≡ WriteFault). absurd (cc (f, w))) fault)
     h.proper
 
-writes : (command : Command) (left : Option (List ℕ)) (w : Seen (Option (List ℕ))) (status : Status) (bytes : List ℕ)
-    → IfSome left (λ whole. Answers command whole status bytes) → Appends w.before w.after bytes → IfSome left (λ whole. Writes command whole status w)
-writes command None w status bytes h grew = tt
-writes command (Some xs) w status bytes h grew = record { bytes = bytes; answers = h; grows = grew }
+writes : (query : Query) (left : Option (List ℕ)) (w : Seen (Option (List ℕ))) (status : Status) (bytes : List ℕ)
+    → IfSome left (λ whole. Answers query whole status bytes) → Appends w.before w.after bytes → IfSome left (λ whole. Writes query whole status w)
+writes query None w status bytes h grew = tt
+writes query (Some xs) w status bytes h grew = record { bytes = bytes; answers = h; grows = grew }
 
 -- all of the answer is written
-pub written : (command : Command) (s : Streams) (status : Status) (bytes : List ℕ) → AnswersSource command s.left status bytes → Appends s.written.before s.written.after bytes → Ended command status s
-written command s status bytes h grew =
-    let P : Status → Type 0 = λ st. Ended command st s in
-    let Q : Status → Type 0 = λ st. IfSome (input_of command s.left.before) (λ text. Writes command text st s.written) in
-    let all : Q status = writes command (input_of command s.left.before) s.written status bytes h.whole grew in
+pub written : (query : Query) (s : Streams) (status : Status) (bytes : List ℕ) → AnswersSource query s.left status bytes → Appends s.written.before s.written.after bytes → Ended query status s
+written query s status bytes h grew =
+    let P : Status → Type 0 = λ st. Ended query st s in
+    let Q : Status → Type 0 = λ st. IfSome (input_of query s.left.before) (λ text. Writes query text st s.written) in
+    let all : Q status = writes query (input_of query s.left.before) s.written status bytes h.whole grew in
     ⊎_elim
-    (λ (e : (status ≡ Done) × ReadToEnd command s.left.after). subst P (sym e.0) (subst Q e.0 all, e.1))
+    (λ (e : (status ≡ Done) × ReadToEnd query s.left.after). subst P (sym e.0) (subst Q e.0 all, e.1))
     (λ (e : (why : Reason) × (status ≡ Refused why)). let f : status ≡ Refused e.0 = e.1 in subst P (sym f) (subst Q f all))
     h.proper
 
 -- a part of it is
-writes_part : (command : Command) (left : Option (List ℕ)) (w : Seen (Option (List ℕ))) (status : Status) (bytes : List ℕ)
-    → IfSome left (λ whole. Answers command whole status bytes) → AppendsPart w bytes → IfSome left (λ whole. WritesPart command whole w)
-writes_part command None w status bytes h part = tt
-writes_part command (Some xs) w status bytes h part = record { status = status; bytes = bytes; answers = h; part = part }
+writes_part : (query : Query) (left : Option (List ℕ)) (w : Seen (Option (List ℕ))) (status : Status) (bytes : List ℕ)
+    → IfSome left (λ whole. Answers query whole status bytes) → AppendsPart w bytes → IfSome left (λ whole. WritesPart query whole w)
+writes_part query None w status bytes h part = tt
+writes_part query (Some xs) w status bytes h part = record { status = status; bytes = bytes; answers = h; part = part }
 
-pub written_part : (command : Command) (s : Streams) (status : Status) (bytes : List ℕ) → AnswersSource command s.left status bytes → AppendsPart s.written bytes → Ended command WriteFault s
-written_part command s status bytes h part = writes_part command (input_of command s.left.before) s.written status bytes h.whole part
+pub written_part : (query : Query) (s : Streams) (status : Status) (bytes : List ℕ) → AnswersSource query s.left status bytes → AppendsPart s.written bytes → Ended query WriteFault s
+written_part query s status bytes h part = writes_part query (input_of query s.left.before) s.written status bytes h.whole part
 
 -- the status is that of the answer to all that there was
-some_bytes : (command : Command) (left : Option (List ℕ)) (status : Status) (bytes : List ℕ) → IfSome left (λ whole. Answers command whole status bytes) → IfSome left (IsAnswered command status)
-some_bytes command None status bytes h = tt
-some_bytes command (Some xs) status bytes h = (bytes, h)
+some_bytes : (query : Query) (left : Option (List ℕ)) (status : Status) (bytes : List ℕ) → IfSome left (λ whole. Answers query whole status bytes) → IfSome left (IsAnswered query status)
+some_bytes query None status bytes h = tt
+some_bytes query (Some xs) status bytes h = (bytes, h)
 
-pub answered : (command : Command) (left : Seen (Option (List ℕ))) (status : Status) (bytes : List ℕ) → AnswersSource command left status bytes → IfSome (input_of command left.before) (IsAnswered command status)
-answered command left status bytes h = some_bytes command (input_of command left.before) status bytes h.whole
+pub answered : (query : Query) (left : Seen (Option (List ℕ))) (status : Status) (bytes : List ℕ) → AnswersSource query left status bytes → IfSome (input_of query left.before) (IsAnswered query status)
+answered query left status bytes h = some_bytes query (input_of query left.before) status bytes h.whole
 
 -- an input has one answer
 same_reason : OneReason → (text : List ℕ) (a b : refusals.Refused) → IsRefused text a → IsRefused text b → a ≡ b
@@ -108,7 +108,7 @@ one_check one never once text s t a b (inr h) (inr k) =
     let same : h.0 ≡ k.0 = same_reason once text h.0 k.0 h.1 k.1 in
     (h.2 ∙ ap (λ (e : refusals.Refused). Refused (reasons.Text e)) same ∙ sym k.2, h.3 ∙ ap refusal_line same ∙ sym k.3)
 
-pub one_answer : OneMessage → NotRefused → OneReason → (command : Command) (text : List ℕ) (s t : Status) (a b : List ℕ) → Answers command text s a → Answers command text t b → (s ≡ t) × (a ≡ b)
+pub one_answer : OneMessage → NotRefused → OneReason → (query : Query) (text : List ℕ) (s t : Status) (a b : List ℕ) → Answers query text s a → Answers query text t b → (s ≡ t) × (a ≡ b)
 one_answer one never once Check text s t a b h k = one_check one never once text s t a b h k
 one_answer one never once Table text s t a b h k = (h.0 ∙ sym k.0, h.1 ∙ sym k.1)
 one_answer one never once Replay text s t a b h k = (h.0 ∙ sym k.0, h.1 ∙ sym k.1)
@@ -118,7 +118,7 @@ abbrev pub EachJudged : Type 0
 EachJudged = (form : Form) (bytes : List ℕ) → ((m : Content) × Spells m bytes × (m.form ≡ form)) ⊎ ((e : refusals.Refused) × Refuses form bytes e × (e ≢ refused.NoMemory))
 
 -- an input has an answer
-pub some_answer : EachJudged → (command : Command) (text : List ℕ) → (status : Status) × IsAnswered command status text
+pub some_answer : EachJudged → (query : Query) (text : List ℕ) → (status : Status) × IsAnswered query status text
 some_answer each Check text = ⊎_elim
     (λ (m : (m : Content) × Spells m text × (m.form ≡ Input)). (message_status (failed_edit m.0), (message_text (failed_edit m.0) text, inl (record { message = m.0; kind = m.2; spells = m.1 }, refl, refl))))
     (λ (e : (e : refusals.Refused) × Refuses Input text e × (e ≢ refused.NoMemory)). (Refused (reasons.Text e.0), (refusal_line e.0, inr (e.0, record { refuses = e.1; judged = e.2 }, refl, refl))))

@@ -7,7 +7,7 @@ use Rattle.faim_base.specs.declared.judgement.Refused.TheVariants.{Byte, NoMemor
 use Rattle.faim_message.specs.declared.form.Form.TheVariants.{Input}
 use Rattle.faim_message.specs.Spelling.{Content, Spells, message_spelling}
 use Rattle.faim_message.specs.Refusal.{Refuses}
-use Rattle.faim_top.specs.declared.command.Command.TheVariants.{Check}
+use Rattle.faim_top.specs.declared.query.Query.TheVariants.{Check}
 use Rattle.faim_top.specs.declared.status.Status.{Status}
 use Rattle.faim_top.specs.declared.status.Status.TheVariants.{Done, Refused}
 use Rattle.faim_top.specs.declared.status.Reason.{Reason}

@@ -1,9 +1,9 @@
--- The answer to all that a source had, where a command reads a script or nothing.
+-- The answer to all that a source had, where a query reads a script or nothing.
 use Rattle.std.proofs.Common.{◌≡◌, ◌⊎◌, inl, inr, ℕ, ◌+◌, List, [], ◌++◌, length, length-append, append-nil, Option, Some, None, sym, ◌∙◌, ap, subst, arith}
 use Rattle.std.specs.Prelude.{Result, Ok, Err, IfSome}
 use Rattle.std.specs.Io.KnownBytes.{Consumes, IsAtEnd}
 use Rattle.std.proofs.KnownBytes.{Consumes-nil}
-use Rattle.faim_top.specs.declared.command.Command.TheVariants.{Table, Replay}
+use Rattle.faim_top.specs.declared.query.Query.TheVariants.{Table, Replay}
 use Rattle.world_text.specs.declared.script.Script.{Script}
 use Rattle.world_text.specs.declared.script.ScriptFault.{ScriptFault}
 use Rattle.world_text.specs.declared.script.Why.TheVariants.{Size}

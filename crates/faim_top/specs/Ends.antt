@@ -1,15 +1,15 @@
--- What a command answers to an input, and what stands at the end of a run.
+-- What a query answers to an input, and what stands at the end of a run.
 use Rattle.std.specs.Prelude.{◌≡◌, ◌⊎◌, ℕ, ◌+◌, ◌≤◌, List, [], length, take, Option, Some, Result, Ok, Err, IfSome}
 use Rattle.std.specs.Io.KnownBytes.{Appends, Keeps, IsAtEnd}
 use Rattle.faim_base.specs.Limits.{longest_message}
 use Rattle.faim_base.specs.declared.judgement.Refused as refusals
 use Rattle.faim_edits.specs.Printing.{table_text}
-use Rattle.faim_top.specs.declared.command.Command.{Command}
-use Rattle.faim_top.specs.declared.command.Command.TheVariants.{Check, Table, Replay}
+use Rattle.faim_top.specs.declared.query.Query.{Query}
+use Rattle.faim_top.specs.declared.query.Query.TheVariants.{Check, Table, Replay}
 use Rattle.world_text.specs.declared.script.Script.{Script}
 use Rattle.world_text.specs.declared.script.ScriptFault.{ScriptFault}
 use Rattle.faim_top.specs.declared.status.Status.{Status}
-use Rattle.faim_top.specs.declared.status.Status.TheVariants.{Done, Usage, Refused, NoMemory, ReadFault, WriteFault}
+use Rattle.faim_top.specs.declared.status.Status.TheVariants.{Done, Refused, NoMemory, ReadFault, WriteFault}
 use Rattle.faim_top.specs.declared.status.Reason.TheVariants as reasons
 use Rattle.faim_top.specs.Checks.{IsInput, IsRefused, failed_edit, message_text, message_status}
 use Rattle.world_text.specs.Grammar.{script_of, size_limit}
@@ -34,44 +34,44 @@ Checked text status bytes =
     ((input : IsInput text) × (status ≡ message_status (failed_edit input.message)) × (bytes ≡ message_text (failed_edit input.message) text))
     ⊎ ((why : refusals.Refused) × IsRefused text why × (status ≡ Refused (reasons.Text why)) × (bytes ≡ refusal_line why))
 
--- the command's answer to an input: how the run ends, and the bytes that are written
-abbrev pub Answers : Command → List ℕ → Status → List ℕ → Type 0
+-- the query's answer to an input: how the run ends, and the bytes that are written
+abbrev pub Answers : Query → List ℕ → Status → List ℕ → Type 0
 Answers Check text status bytes = Checked text status bytes
 Answers Table text status bytes = (status ≡ Done) × (bytes ≡ table_text)
 Answers Replay text status bytes = (status ≡ answer_status (script_of text)) × (bytes ≡ answer_text (script_of text))
 
--- the command's answer to an input has this status
-abbrev pub IsAnswered : Command → Status → List ℕ → Type 0
-IsAnswered command status text = (bytes : List ℕ) × Answers command text status bytes
+-- the query's answer to an input has this status
+abbrev pub IsAnswered : Query → Status → List ℕ → Type 0
+IsAnswered query status text = (bytes : List ℕ) × Answers query text status bytes
 
--- how many bytes of an input a command reads at most: one more than the longest message has, none, one more than a script may have
-abbrev pub most_read : Command → ℕ
+-- how many bytes of an input a query reads at most: one more than the longest message has, none, one more than a script may have
+abbrev pub most_read : Query → ℕ
 most_read Check = longest_message + 1
 most_read Table = 0
 most_read Replay = size_limit + 1
 
--- what a command answers to, where it is known: its input, but a table needs none
-abbrev pub input_of : Command → Option (List ℕ) → Option (List ℕ)
+-- what a query answers to, where it is known: its input, but a table needs none
+abbrev pub input_of : Query → Option (List ℕ) → Option (List ℕ)
 input_of Check left = left
 input_of Table left = Some []
 input_of Replay left = left
 
--- a source was read to its end by a command that reads it
-abbrev pub ReadToEnd : Command → Option (List ℕ) → Type 0
+-- a source was read to its end by a query that reads it
+abbrev pub ReadToEnd : Query → Option (List ℕ) → Type 0
 ReadToEnd Check rest = IsAtEnd rest
 ReadToEnd Table rest = Unit {0}
 ReadToEnd Replay rest = IsAtEnd rest
 
--- a command reads its source
-abbrev pub Reads : Command → Type 0
+-- a query reads its source
+abbrev pub Reads : Query → Type 0
 Reads Check = Unit {0}
 Reads Table = ⊥
 Reads Replay = Unit {0}
 
--- the bytes of a sink, where they are known, grow by the command's answer, and it has this status
-pub record Writes (command : Command) (text : List ℕ) (status : Status) (written : Seen (Option (List ℕ))) : Type 0 where
+-- the bytes of a sink, where they are known, grow by the query's answer, and it has this status
+pub record Writes (query : Query) (text : List ℕ) (status : Status) (written : Seen (Option (List ℕ))) : Type 0 where
   pub bytes : List ℕ
-  pub answers : Answers command text status bytes
+  pub answers : Answers query text status bytes
   pub grows : Appends written.before written.after bytes
 
 -- they grow by a front part of some bytes
@@ -80,11 +80,11 @@ pub record AppendsPart (written : Seen (Option (List ℕ))) (bytes : List ℕ) :
   pub within : count ≤ length bytes
   pub grows : Appends written.before written.after (take count bytes)
 
--- they grow by a front part of the command's answer
-pub record WritesPart (command : Command) (text : List ℕ) (written : Seen (Option (List ℕ))) : Type 0 where
+-- they grow by a front part of the query's answer
+pub record WritesPart (query : Query) (text : List ℕ) (written : Seen (Option (List ℕ))) : Type 0 where
   pub status : Status
   pub bytes : List ℕ
-  pub answers : Answers command text status bytes
+  pub answers : Answers query text status bytes
   pub part : AppendsPart written bytes
 
 -- the bytes that a source has left and those that a sink has taken, where they are known
@@ -92,11 +92,11 @@ pub record Streams : Type 0 where
   pub left : Seen (Option (List ℕ))
   pub written : Seen (Option (List ℕ))
 
--- what each status of a command says of what was read and written
-abbrev pub Ended : Command → Status → Streams → Type 0
-Ended command Done s = IfSome (input_of command s.left.before) (λ text. Writes command text Done s.written) × ReadToEnd command s.left.after
-Ended command (Refused why) s = IfSome (input_of command s.left.before) (λ text. Writes command text (Refused why) s.written)
-Ended command WriteFault s = IfSome (input_of command s.left.before) (λ text. WritesPart command text s.written)
-Ended command Usage s = ⊥
-Ended command NoMemory s = Keeps s.written.before s.written.after
-Ended command ReadFault s = Reads command × Keeps s.written.before s.written.after
+-- what each status of a query says of what was read and written
+abbrev pub Ended : Query → Status → Streams → Type 0
+Ended query Done s = IfSome (input_of query s.left.before) (λ text. Writes query text Done s.written) × ReadToEnd query s.left.after
+Ended query (Refused why) s = IfSome (input_of query s.left.before) (λ text. Writes query text (Refused why) s.written)
+Ended query WriteFault s = IfSome (input_of query s.left.before) (λ text. WritesPart query text s.written)
+Ended query NoMemory s = Keeps s.written.before s.written.after
+Ended query ReadFault s = Reads query × Keeps s.written.before s.written.after
+Ended query other s = ⊥

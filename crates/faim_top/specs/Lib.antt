@@ -6,3 +6,7 @@ pub mod Ends
 pub mod Sources
 pub mod Promises
 pub mod ExitCodes
+pub mod Views
+pub mod Inits
+pub mod Sessions
+pub mod Commands

@@ -5,7 +5,7 @@ use Rattle.faim_base.specs.declared.judgement.Refused as refusals
 use Rattle.faim_message.specs.declared.form.Form.TheVariants.{Input}
 use Rattle.faim_message.specs.Refusal.{StopsAt, Refuses}
 use Rattle.faim_stream.specs.Fed.{Held, IsFed, Judges}
-use Rattle.faim_top.specs.declared.command.Command.{Command}
+use Rattle.faim_top.specs.declared.query.Query.{Query}
 use Rattle.faim_top.specs.declared.status.Status.{Status}
 use Rattle.faim_top.specs.declared.status.Status.TheVariants.{Done, Refused}
 use Rattle.faim_top.specs.declared.status.Reason.{Reason}
@@ -37,7 +37,7 @@ RefusesSource left why = IfSome left.before (λ text. Refuses Input text why)
 abbrev pub TakesLittleBeyond : Seen (Option (List ℕ)) → Type 0
 TakesLittleBeyond left = IfSome left.before (λ text. (p : ℕ) → StopsAt Input text p → LosesAtMost (p + 4_096) left)
 
--- the command's answer to all that a source had, which was read to its end, or refused
-pub record AnswersSource (command : Command) (left : Seen (Option (List ℕ))) (status : Status) (bytes : List ℕ) : Type 0 where
-  pub whole : IfSome (input_of command left.before) (λ text. Answers command text status bytes)
-  pub proper : ((status ≡ Done) × ReadToEnd command left.after) ⊎ ((why : Reason) × (status ≡ Refused why))
+-- the query's answer to all that a source had, which was read to its end, or refused
+pub record AnswersSource (query : Query) (left : Seen (Option (List ℕ))) (status : Status) (bytes : List ℕ) : Type 0 where
+  pub whole : IfSome (input_of query left.before) (λ text. Answers query text status bytes)
+  pub proper : ((status ≡ Done) × ReadToEnd query left.after) ⊎ ((why : Reason) × (status ≡ Refused why))

@@ -1,4 +1,4 @@
-// What a command answers to an input.
+// What a query answers to an input.
 ghost use Rattle.std.specs.Prelude.{◌≡◌, ◌≢◌, ◌⊎◌, Err, IfOk};
 ghost use Rattle.world_text.specs.Grammar.{script_of};
 ghost use Rattle.faim_top.specs.Ends.{Reads, answer_text, answer_status, most_read};
@@ -12,7 +12,7 @@ ghost use Rattle.faim_edits.specs.Printing.{table_text};
 use crate::feeding::{Unread, read_message};
 use crate::play::report;
 use crate::streams::{ReadEnd, read_up_to};
-use crate::{Command, Reason, Status};
+use crate::{Query, Reason, Status};
 use faim_base::{LONGEST_MESSAGE, NoMemory, Refused};
 use faim_edits::{EditNo, first_failed, print_edit, print_table, test_or_production};
 use faim_message::{Form, Message, encode};
@@ -27,26 +27,27 @@ const ACCEPTED: &[u8] = b"accepted\n";
 #[tactic(auto, using(crate::proofs::WholeScripts::tabled, crate::proofs::WholeScripts::takes_none))]
 pub(crate) fn answer_to<I: Source>(
     alloc: Global,
-    command: Command,
+    query: Query,
     input: &mut I,
 ) -> Result<(Vec<u8>, Status), ReadEnd>
-    ensures answer { IfOk result (λ a. AnswersSource command (seen I.left input.old input.new) a.1 a.0.items) }
-    ensures few { LosesAtMost (most_read command) (seen I.left input.old input.new) }
-    ensures beyond { command ≡ Command.Check → TakesLittleBeyond (seen I.left input.old input.new) }
-    ensures asked { result ≡ Err ReadEnd.Failed → Reads command }
+    ensures answer { IfOk result (λ a. AnswersSource query (seen I.left input.old input.new) a.1 a.0.items) }
+    ensures few { LosesAtMost (most_read query) (seen I.left input.old input.new) }
+    ensures table { query ≡ Query.Table → input.new ≡ input.old }
+    ensures beyond { query ≡ Query.Check → TakesLittleBeyond (seen I.left input.old input.new) }
+    ensures asked { result ≡ Err ReadEnd.Failed → Reads query }
     ensures faults { CountsFaults (result ≡ Err ReadEnd.Failed) (seen I.read_faults input.old input.new) }
 {
-    match command {
-        Command::Check => check(alloc, input),
-        Command::Table => Ok(table(alloc)?),
-        Command::Replay => replay(alloc, input),
+    match query {
+        Query::Check => check(alloc, input),
+        Query::Table => Ok(table(alloc)?),
+        Query::Replay => replay(alloc, input),
     }
 }
 
 // The message after a line, or the line that says which edit it fails or why the input is none.
 fn check<I: Source>(alloc: Global, input: &mut I) -> Result<(Vec<u8>, Status), ReadEnd>
-    ensures answer { IfOk result (λ a. AnswersSource Command.Check (seen I.left input.old input.new) a.1 a.0.items) }
-    ensures few { LosesAtMost (most_read Command.Check) (seen I.left input.old input.new) }
+    ensures answer { IfOk result (λ a. AnswersSource Query.Check (seen I.left input.old input.new) a.1 a.0.items) }
+    ensures few { LosesAtMost (most_read Query.Check) (seen I.left input.old input.new) }
     ensures beyond { TakesLittleBeyond (seen I.left input.old input.new) }
     ensures faults { CountsFaults (result ≡ Err ReadEnd.Failed) (seen I.read_faults input.old input.new) }
 {
@@ -116,8 +117,8 @@ fn table(alloc: Global) -> Result<(Vec<u8>, Status), NoMemory>
 
 // The report of the script that a source gives, or the line of its first fault.
 fn replay<I: Source>(alloc: Global, input: &mut I) -> Result<(Vec<u8>, Status), ReadEnd>
-    ensures answer { IfOk result (λ a. AnswersSource Command.Replay (seen I.left input.old input.new) a.1 a.0.items) }
-    ensures few { LosesAtMost (most_read Command.Replay) (seen I.left input.old input.new) }
+    ensures answer { IfOk result (λ a. AnswersSource Query.Replay (seen I.left input.old input.new) a.1 a.0.items) }
+    ensures few { LosesAtMost (most_read Query.Replay) (seen I.left input.old input.new) }
     ensures faults { CountsFaults (result ≡ Err ReadEnd.Failed) (seen I.read_faults input.old input.new) }
 {
     let text = match read_up_to(alloc, input, SIZE_LIMIT + 1) {

@@ -1,5 +1,9 @@
 // The words of the command line.
 ghost use Rattle.std.specs.Prelude.{◌≡◌, drop};
+ghost use Rattle.std.specs.Option.{option_copied};
+ghost use Rattle.faim_top.specs.Words.{begun, named, numbered, path_after, path_of, texts};
+
+use crate::Query;
 
 /// The words after the program's name: all but the first.
 pub fn words_after_name(all: &[String]) -> &[String]
@@ -14,12 +18,12 @@ pub fn words_after_name(all: &[String]) -> &[String]
 /// What the program is asked for.
 #[derive(Clone, Copy, Debug, PartialEq, Eq)]
 pub enum Command {
-    /// Whether an input is a message that fails no edit.
-    Check,
-    /// The edit table in print.
-    Table,
-    /// The report of a script.
-    Replay,
+    /// An answer in print.
+    Answer(Query),
+    /// A journal of a host without entries, whose configuration is the input.
+    HostInit,
+    /// A session of the host that a journal keeps.
+    Host,
 }
 
 impl Command {
@@ -31,12 +35,62 @@ impl Command {
         ensures { result ≡ command_of (texts words.now) }
     {
         match words {
-            [word] if word.as_str() == "check" => Some(Command::Check),
-            [word] if word.as_str() == "replay" => Some(Command::Replay),
-            [word, number] if word.as_str() == "table" && number.as_str() == "1" => {
-                Some(Command::Table)
-            }
+            [word] => named(word.as_str()),
+            [word, number] => numbered(word.as_str(), number.as_str()),
+            [word, init, _] => begun(word.as_str(), init.as_str()),
             _ => None,
         }
+    }
+}
+
+// A command of one word.
+fn named(word: &str) -> Option<Command>
+    ensures { result ≡ named word.now }
+{
+    match word {
+        "check" => Some(Command::Answer(Query::Check)),
+        "replay" => Some(Command::Answer(Query::Replay)),
+        _ => None,
+    }
+}
+
+// The edit table by its number, or a session with a path.
+fn numbered(word: &str, number: &str) -> Option<Command>
+    ensures { result ≡ numbered word.now number.now }
+{
+    match (word, number) {
+        ("table", "1") => Some(Command::Answer(Query::Table)),
+        ("host", _) => Some(Command::Host),
+        _ => None,
+    }
+}
+
+// An init with a path.
+fn begun(word: &str, init: &str) -> Option<Command>
+    ensures { result ≡ begun word.now init.now }
+{
+    match (word, init) {
+        ("host", "init") => Some(Command::HostInit),
+        _ => None,
+    }
+}
+
+/// The path of the file that a command keeps its journal in: the last word of a command that has one. None for other words.
+pub fn path_in(words: &[String]) -> Option<&str>
+    ensures { option_copied result ≡ path_of (texts words.now) }
+{
+    match words {
+        [word, path] => path_after(numbered(word.as_str(), path.as_str()), path.as_str()),
+        [word, init, path] => path_after(begun(word.as_str(), init.as_str()), path.as_str()),
+        _ => None,
+    }
+}
+
+fn path_after(command: Option<Command>, path: &str) -> Option<&str>
+    ensures { option_copied result ≡ path_after command path.now }
+{
+    match command {
+        Some(Command::HostInit) | Some(Command::Host) => Some(path),
+        Some(Command::Answer(_)) | None => None,
     }
 }

@@ -2,7 +2,7 @@
 ghost use Rattle.std.specs.Prelude.{◌≡◌, ℕ, List};
 ghost use Rattle.host_ledger.specs.Soundness.{IsConfig};
 ghost use Rattle.world_text.specs.declared.script.Script.{Script};
-ghost use Rattle.faim_top.specs.declared.command.Command.{Command};
+ghost use Rattle.faim_top.specs.declared.query.Query.{Query};
 ghost use Rattle.faim_top.specs.declared.status.Status.{Status};
 ghost use Rattle.faim_top.specs.Ends.{Answers, IsAnswered};
 ghost use Rattle.faim_top.specs.Promises.{KeepsPromises};
@@ -31,10 +31,10 @@ pub fn promises_kept()
     other_text_is_turned();
 }
 
-/// Every input of a command, whatever its bytes, has an answer, and one alone: one status, and one text to be written.
+/// Every input of a query, whatever its bytes, has an answer, and one alone: one status, and one text to be written.
 pub fn inputs_have_one_answer()
-    ensures some { (c : Command) (text : List ℕ) → (status : Status) × IsAnswered c status text }
-    ensures one { (c : Command) (text : List ℕ) (s t : Status) (a b : List ℕ) → Answers c text s a → Answers c text t b → (s ≡ t) × (a ≡ b) }
+    ensures some { (q : Query) (text : List ℕ) → (status : Status) × IsAnswered q status text }
+    ensures one { (q : Query) (text : List ℕ) (s t : Status) (a b : List ℕ) → Answers q text s a → Answers q text t b → (s ≡ t) × (a ≡ b) }
 {
     each_input_is_judged();
     one_spelling_of_messages();

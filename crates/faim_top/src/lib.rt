@@ -4,15 +4,19 @@
 mod answers;
 mod command;
 mod feeding;
+mod inits;
 mod laws;
 mod play;
+mod query;
+mod sessions;
 mod status;
 mod streams;
 #[cfg(test)]
 mod tests;
 mod top;
 
-pub use command::{Command, words_after_name};
+pub use command::{Command, path_in, words_after_name};
 pub use laws::{inputs_have_one_answer, promises_kept};
+pub use query::Query;
 pub use status::{Reason, Status};
 pub use top::run;

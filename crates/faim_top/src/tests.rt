@@ -1,13 +1,17 @@
 mod checking;
 mod ends;
+mod hosting;
 mod keeping;
 mod playing;
 mod refusing;
 
 use crate::{Status, run};
-use faim_base::{Bytes, NoMemory, Places};
-use site_core::{MemSink, MemSource};
+use faim_base::{Bytes, Moment, Moments, NoMemory, Places};
+use site_core::{MemClock, MemSink, MemSite, MemSource};
 use std::alloc::Global;
+
+// 2024-01-02 09:30.
+const MORNING: u32 = 12_625_050;
 
 const HOST: &str = "host T 20240102 2400 2400";
 
@@ -40,21 +44,72 @@ struct Streams<'a> {
     write_fails: &'a [usize],
 }
 
-// The program over these words and this input.
+// The program over these words and this input, and a site that is empty.
 fn run_over(
     alloc: Global,
     words: &[&str],
     input: &[u8],
     streams: &Streams,
 ) -> Result<Ran, NoMemory> {
+    let mut site = MemSite::new(alloc, Places::new(alloc));
+    run_on(
+        alloc,
+        words,
+        input,
+        streams,
+        &mut site,
+        morning(alloc, &[])?,
+    )
+}
+
+// The program over these words, this input, this site and this clock.
+fn run_on(
+    alloc: Global,
+    words: &[&str],
+    input: &[u8],
+    streams: &Streams,
+    site: &mut MemSite,
+    clock: MemClock,
+) -> Result<Ran, NoMemory> {
+    let mut clock = clock;
     let words = owned(alloc, words)?;
     let cuts = places(alloc, streams.cuts)?;
     let fails = places(alloc, streams.read_fails)?;
     let mut source = MemSource::new(bytes(alloc, input)?, cuts, fails);
     let mut sink = MemSink::new(alloc, places(alloc, streams.write_fails)?);
-    let status = run(alloc, words.as_slice(), &mut source, &mut sink);
+    let status = run_between(
+        alloc,
+        words.as_slice(),
+        &mut source,
+        &mut sink,
+        site,
+        &mut clock,
+    );
     let written = bytes(alloc, sink.bytes())?;
     Ok(Ran { status, written })
+}
+
+// The program over these objects, and no stage.
+fn run_between(
+    alloc: Global,
+    words: &[String],
+    source: &mut MemSource,
+    sink: &mut MemSink,
+    site: &mut MemSite,
+    clock: &mut MemClock,
+) -> Status {
+    let mut stage: Vec<MemSite> = Vec::new(alloc);
+    run(alloc, words, source, sink, site, &mut stage, clock)
+}
+
+// A clock that stands at 2024-01-02 09:30.
+fn morning(alloc: Global, fails: &[usize]) -> Result<MemClock, NoMemory> {
+    let mut readings = Moments::new(alloc);
+    match Moment::new(MORNING) {
+        Some(moment) => readings.push(moment)?,
+        None => unreachable!(),
+    }
+    Ok(MemClock::new(readings, places(alloc, fails)?))
 }
 
 // A script is replayed, and no call fails.

@@ -43,6 +43,7 @@ each_on (b ∷ arrivals) a each is = (each.0, each_on arrivals a each.1 is)
 pub came_of : (start : View) (intake : Intake) (node : Node) (now : View) (g : Going start intake node now) → HasCome g.arrivals g.bytes start now
 came_of start intake node now g = record {
   taken = g.taken;
+  few = g.few;
   read = g.given;
   each = g.each;
   first = λ more all rest splits. first_ones g.bytes more (frames_of g.arrivals) all rest intake g.read splits;
@@ -111,6 +112,7 @@ module _ (start : View) (left given : Option (List ℕ)) (site : Option Told) (i
     came_more : (now : Option Told) → HasCome more g.bytes start (record { left = left; given = later; site = now })
     came_more now = record {
       taken = g.taken;
+      few = g.few;
       read = given_more;
       each = each_more;
       first = λ m all rest splits. first_ones g.bytes m (frames_of more) all rest after read_more splits;
@@ -123,6 +125,7 @@ module _ (start : View) (left given : Option (List ℕ)) (site : Option Told) (i
       bytes = g.bytes;
       arrivals = more;
       taken = g.taken;
+      few = g.few;
       read = read_more;
       given = given_more;
       each = each_more;

@@ -31,12 +31,13 @@ ended_as end = Err end
 
 -- more was taken
 pub advanced : (start : View) (left rest given : Option (List ℕ)) (site : Option Told) (old new : Intake) (node : Node)
-    → Going start old node (record { left = left; given = given; site = site }) → Takes greatest_input left rest old new
+    → Going start old node (record { left = left; given = given; site = site }) → Takes greatest_input left rest old new → new.taken ≤ greatest_input + 1
     → Going start new node (record { left = rest; given = given; site = site })
-advanced start left rest given site old new node g t = record {
+advanced start left rest given site old new node g t most = record {
   bytes = g.bytes ++ t.more;
   arrivals = g.arrivals;
   taken = Consumes-trans start.left left rest g.bytes t.more g.taken t.source;
+  few = omega (arith, most, (takes_more g.bytes (frames_of g.arrivals) left rest old new t g.read).counted);
   read = takes_more g.bytes (frames_of g.arrivals) left rest old new t g.read;
   given = g.given;
   each = g.each;

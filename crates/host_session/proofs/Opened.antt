@@ -237,6 +237,7 @@ ends_unopened opens.NoMemory old new says calls moments kept pending stands =
 nothing_came : (start : View) (now : Option Told) → HasCome [] [] start (record { left = start.left; given = start.given; site = now })
 nothing_came start now = record {
   taken = Consumes-nil start.left;
+  few = omega arith;
   read = known_same start.given;
   each = tt;
   first = λ more all rest splits. (all, refl);
@@ -334,6 +335,7 @@ begun start intake node now fresh live calls moments = record {
   bytes = [];
   arrivals = [];
   taken = Consumes-nil start.left;
+  few = omega arith;
   read = subst (λ (i : Intake). HasRead [] [] i) (sym fresh) (record { counted = refl; each = tt; is = refl });
   given = known_same start.given;
   each = tt;

@@ -1,5 +1,5 @@
 -- A host's session that goes on: the frames that arrived are handled.
-use Rattle.std.specs.Prelude.{◌≡◌, ℕ, ◌+◌, ◌-◌, List, length, Bool, true, false, Result, Ok, Err}
+use Rattle.std.specs.Prelude.{◌≡◌, ℕ, ◌+◌, ◌-◌, ◌≤◌, List, length, Bool, true, false, Result, Ok, Err}
 use Rattle.std.specs.List.{AllByRecursion}
 use Rattle.std.specs.Io.KnownBytes.{Consumes, append_known}
 use Rattle.site_core.specs.Log.{reads, NothingPending}
@@ -36,6 +36,7 @@ pub record Going (start : View) (intake : Intake) (node : Node) (now : View) : T
   pub bytes : List ℕ
   pub arrivals : List Arrival
   pub taken : Consumes start.left now.left bytes
+  pub few : length bytes ≤ greatest_input + 1
   pub read : HasRead bytes (frames_of arrivals) intake
   pub given : now.given ≡ append_known start.given (readings_of arrivals)
   pub each : AllByRecursion IsArrival arrivals

@@ -1,5 +1,5 @@
 -- What the objects of a session tell, and what came from them.
-use Rattle.std.specs.Prelude.{◌≡◌, ℕ, List, ◌++◌, map, take, Option}
+use Rattle.std.specs.Prelude.{◌≡◌, ℕ, ◌+◌, ◌≤◌, List, ◌++◌, length, map, take, Option}
 use Rattle.std.specs.List.{AllByRecursion}
 use Rattle.std.specs.Io.KnownBytes.{Consumes, append_known}
 use Rattle.site_core.specs.Told.{Told}
@@ -21,10 +21,11 @@ frames_of arrivals = map (λ a. a.frame) arrivals
 abbrev pub readings_of : List Arrival → List ℕ
 readings_of arrivals = map (λ a. a.reading) arrivals
 
--- these bytes were taken from the source, and these frames arrived, each at the next reading of the clock; they are the first
--- frames of the input, whatever comes after the bytes
+-- these bytes were taken from the source, at most one more than an input may have, and these frames arrived, each at the next
+-- reading of the clock; they are the first frames of the input, whatever comes after the bytes
 pub record HasCome (arrivals : List Arrival) (bytes : List ℕ) (old new : View) : Type 0 where
   pub taken : Consumes old.left new.left bytes
+  pub few : length bytes ≤ greatest_input + 1
   pub read : new.given ≡ append_known old.given (readings_of arrivals)
   pub each : AllByRecursion IsArrival arrivals
   pub first : (more : List ℕ) (all : List Frame) (rest : List ℕ) → Splits (take greatest_input bytes ++ more) all rest

@@ -1,10 +1,10 @@
 ghost use Rattle.std.specs.Prelude.{◌<◌};
 
-use super::{Ran, Streams, bytes, owned, run_over};
-use crate::{Reason, Status, run};
+use super::{Ran, Streams, bytes, morning, owned, run_between, run_over};
+use crate::{Reason, Status};
 use faim_base::{Bytes, NoMemory, Places, Refused, TagNo};
 use faim_edits::EditNo;
-use site_core::{MemSink, MemSource, Source};
+use site_core::{MemSink, MemSite, MemSource, Source};
 use std::alloc::Global;
 use std::test::Fail;
 
@@ -202,7 +202,16 @@ fn nothing_is_read_after_a_wrong_byte(rt: HostRuntime) -> Result<(), Fail> {
         let input = with_letters(alloc, thousands)?;
         let mut source = MemSource::new(input, cuts_after(alloc, size, 4_235)?, Places::new(alloc));
         let mut sink = MemSink::new(alloc, Places::new(alloc));
-        let status = run(alloc, words.as_slice(), &mut source, &mut sink);
+        let mut site = MemSite::new(alloc, Places::new(alloc));
+        let mut clock = morning(alloc, &[])?;
+        let status = run_between(
+            alloc,
+            words.as_slice(),
+            &mut source,
+            &mut sink,
+            &mut site,
+            &mut clock,
+        );
         assert_eq!(rt; status, Status::Refused(Reason::Text(Refused::Byte(137))));
         assert_eq!(rt; status.code(), 3);
         assert_eq!(rt; sink.bytes(), b"byte 137\n".as_slice());

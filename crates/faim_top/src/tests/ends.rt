@@ -12,7 +12,10 @@ fn other_words_are_no_command(rt: HostRuntime) -> Result<(), Fail> {
         read_fails: &[1],
         write_fails: &[1],
     };
-    let cases: [&[&str]; 12] = [
+    let cases: [&[&str]; 15] = [
+        &["host", "init", "journal", "x"],
+        &["host", "begin", "journal"],
+        &["Host", "journal"],
         &[],
         &[""],
         &["replay", "x"],
@@ -100,34 +103,45 @@ fn cuts_of_reads_change_nothing(rt: HostRuntime) -> Result<(), Fail> {
 }
 
 #[test]
-fn a_shell_is_told_how_a_run_ended(rt: HostRuntime) {
+fn a_shell_is_told_how_a_run_ended(rt: HostRuntime) -> Result<(), Fail> {
     let fault = ScriptFault {
         line: 1,
         why: Why::Ended,
     };
     for (status, code, line) in [
-        (Status::Done, 0, None),
+        (Status::Done, 0, "faim: done"),
         (
             Status::without_words(ErrorKind::InvalidData),
             2,
-            Some("faim: usage"),
+            "faim: usage",
         ),
-        (
-            Status::Refused(Reason::Script(fault)),
-            3,
-            Some("faim: refused"),
-        ),
+        (Status::Refused(Reason::Script(fault)), 3, "faim: refused"),
+        (Status::Refused(Reason::TooLong), 3, "faim: refused"),
         (
             Status::without_words(ErrorKind::OutOfMemory),
             4,
-            Some("faim: no memory"),
+            "faim: no memory",
         ),
-        (Status::ReadFault, 5, Some("faim: read fault")),
-        (Status::WriteFault, 6, Some("faim: write fault")),
+        (Status::ReadFault, 5, "faim: read fault"),
+        (Status::WriteFault, 6, "faim: write fault"),
+        (Status::DiskFault, 7, "faim: disk fault"),
+        (Status::LineFault, 8, "faim: line fault"),
+        (Status::Damaged { place: 99 }, 9, "faim: damaged at 99"),
+        (
+            Status::JournalFull {
+                tail: 1_073_741_800,
+                need: 207,
+            },
+            10,
+            "faim: journal full at 1073741800 needing 207",
+        ),
+        (Status::NoJournal, 11, "faim: no journal"),
+        (Status::ClockFault, 12, "faim: clock fault"),
     ] {
         assert_eq!(rt; status.code(), code);
-        assert_eq!(rt; status.error_line(), line);
+        assert_eq!(rt; status.to_string(rt.alloc())?.as_str(), line);
     }
+    Ok(())
 }
 
 #[test]

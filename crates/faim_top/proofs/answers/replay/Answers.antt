@@ -1,5 +1,5 @@
 use Rattle.std.proofs.Common.{ℕ, List, subst}
-use Rattle.faim_top.specs.declared.command.Command.TheVariants.{Replay}
+use Rattle.faim_top.specs.declared.query.Query.TheVariants.{Replay}
 use Rattle.faim_top.specs.Ends.{Answers}
 use Rattle.faim_top.proofs.WholeScripts.{replayed}
 use Rattle.faim_top.proofs.answers.replay.Goals as goal

@@ -10,15 +10,15 @@ use Rattle.host_session.proofs.serving.take_next.Goals as goal
 
 pub returns-in-Ok-clause-told : goal.returns-in-Ok-clause-told
 returns-in-Ok-clause-told g c = λ start going.
-    c.in-Ok.ensures.told start (g.I.Source.left c.advance.new.input) (advanced start _ _ _ _ _ _ _ going c.advance.ensures.takes)
+    c.in-Ok.ensures.told start (g.I.Source.left c.advance.new.input) (advanced start _ _ _ _ _ _ _ going c.advance.ensures.takes c.advance.ensures.most)
 
 pub returns-in-Err-handle_front-clause-told : goal.returns-in-Err-handle_front-clause-told
 returns-in-Err-handle_front-clause-told g c = λ start going.
-    c.in-Err-handle_front.ensures.told start (g.I.Source.left c.advance.new.input) (advanced start _ _ _ _ _ _ _ going c.advance.ensures.takes)
+    c.in-Err-handle_front.ensures.told start (g.I.Source.left c.advance.new.input) (advanced start _ _ _ _ _ _ _ going c.advance.ensures.takes c.advance.ensures.most)
 
 pub returns-in-Ok-false-clause-told : goal.returns-in-Ok-false-clause-told
 returns-in-Ok-false-clause-told g c = λ start going.
-    came_to_end start _ _ _ _ _ (advanced start _ _ _ _ _ _ _ going c.advance.ensures.takes)
+    came_to_end start _ _ _ _ _ (advanced start _ _ _ _ _ _ _ going c.advance.ensures.takes c.advance.ensures.most)
     (subst (λ (b : Bool). Answers (Ok b) c.advance.new.self.held (g.I.Source.left c.advance.new.input)) c.in-Ok-false.field-0-test c.in-Ok-false.ensures.answer)
     (subst (λ (b : Bool). (came_as b ≡ Err TooLong) ↔ (greatest_input < c.advance.new.self.taken)) c.in-Ok-false.field-0-test c.in-Ok-false.ensures.too_long)
     c.advance.ensures.most
@@ -26,7 +26,7 @@ returns-in-Ok-false-clause-told g c = λ start going.
 pub returns-in-Err-clause-told : goal.returns-in-Err-clause-told
 returns-in-Err-clause-told g c = λ start going.
     subst (λ (e : SessionEnd). Session (Err e) start (record { left = g.I.Source.left c.advance.new.input; given = g.C.Clock.given c.args.clock.now; site = g.S.Site.told c.args.site.now })) (sym c.input_end.ensures)
-    (no_frame start _ _ _ _ _ (advanced start _ _ _ _ _ _ _ going c.advance.ensures.takes) c.in-Err.end c.in-Err.ensures.answer c.in-Err.ensures.too_long c.advance.ensures.most)
+    (no_frame start _ _ _ _ _ (advanced start _ _ _ _ _ _ _ going c.advance.ensures.takes c.advance.ensures.most) c.in-Err.end c.in-Err.ensures.answer c.in-Err.ensures.too_long c.advance.ensures.most)
 
 pub returns-in-Err-handle_front-clause-never : goal.returns-in-Err-handle_front-clause-never
 returns-in-Err-handle_front-clause-never g c = host_ends_later c.in-Err-handle_front.end c.in-Err-handle_front.ensures.never

@@ -1,0 +1,48 @@
+// A session of the host that a journal keeps (docs/FORMATS.md, "Commands").
+ghost use Rattle.std.specs.Prelude.{◌≡◌, ◌+◌, List, ℕ, Option};
+ghost use Rattle.framed_input.specs.Limits.{greatest_input};
+ghost use Rattle.faim_top.specs.Seen.{CountsFaults, LosesAtMost, Seen, seen};
+ghost use Rattle.faim_top.specs.Sessions.{SessionEnded, status_by};
+
+use crate::{Reason, Status};
+use host_session::{SessionEnd, serve};
+use site_core::{Clock, Site, Source};
+use std::alloc::Global;
+
+// Resumes the host that a site keeps, and handles the frames of a source.
+pub(crate) fn serve_host<I: Source, S: Site, C: Clock>(
+    alloc: Global,
+    input: &mut I,
+    site: &mut S,
+    clock: &mut C,
+) -> Status
+    ensures ended { (written : Seen (Option (List ℕ))) → SessionEnded result (record { left = seen I.left input.old input.new; written = written; site = seen S.told site.old site.new; given = seen C.given clock.old clock.new }) }
+    ensures few { LosesAtMost (greatest_input + 1) (seen I.left input.old input.new) }
+    ensures input_faults { CountsFaults (result ≡ Status.ReadFault) (seen I.read_faults input.old input.new) }
+    ensures disk_faults { CountsFaults (result ≡ Status.DiskFault) (seen S.disk_faults site.old site.new) }
+    ensures line_faults { CountsFaults (result ≡ Status.LineFault) (seen S.line_faults site.old site.new) }
+    ensures clock_faults { CountsFaults (result ≡ Status.ClockFault) (seen C.clock_faults clock.old clock.new) }
+{
+    match serve(alloc, input, site, clock) {
+        Ok(()) => Status::Done,
+        Err(end) => status_by(end),
+    }
+}
+
+// The status that tells how a session ends.
+fn status_by(end: SessionEnd) -> Status
+    ensures { result ≡ status_by end }
+{
+    match end {
+        SessionEnd::ReadFault => Status::ReadFault,
+        SessionEnd::Frame(fault) => Status::Refused(Reason::Frame(fault)),
+        SessionEnd::TooLong => Status::Refused(Reason::TooLong),
+        SessionEnd::ClockFault => Status::ClockFault,
+        SessionEnd::DiskFault => Status::DiskFault,
+        SessionEnd::LineFault => Status::LineFault,
+        SessionEnd::NoJournal => Status::NoJournal,
+        SessionEnd::Damaged { place } => Status::Damaged { place },
+        SessionEnd::JournalFull { tail, need } => Status::JournalFull { tail, need },
+        SessionEnd::NoMemory => Status::NoMemory,
+    }
+}
