@@ -95,8 +95,33 @@ fn first_number(form: Form) -> &'static [u16]
 pub(crate) fn missing_number(form: Form, tags: &[TagValue]) -> Option<u16>
     ensures { result ≡ missing form tags.now }
 {
-    mandatory(form)
-        .iter()
-        .copied()
-        .find(|number| !has(tags, *number))
+    first_missing(behind_found(mandatory(form), tags), tags)
+}
+
+// The first of the numbers that no tag has.
+fn first_missing(wanted: &[u16], tags: &[TagValue]) -> Option<u16>
+    ensures { result ≡ find (λ n. not (is_among (numbers tags.now) n)) wanted.now }
+{
+    wanted.iter().copied().find(|number| !has(tags, *number))
+}
+
+// The numbers behind those that the first tags have in the same order: in most messages none, and no search is needed.
+fn behind_found<'a>(wanted: &'a [u16], tags: &[TagValue]) -> &'a [u16]
+    ensures { find (λ n. not (is_among (numbers tags.now) n)) result.now ≡ find (λ n. not (is_among (numbers tags.now) n)) wanted.now }
+{
+    let mut count = 0;
+    while count < wanted.len() && is_at(tags, count, wanted[count]) {
+        count += 1;
+    }
+    &wanted[count..]
+}
+
+// The tag at the place has the number.
+fn is_at(tags: &[TagValue], place: usize, number: u16) -> bool
+    ensures { result ≡ true → is_among (numbers tags.now) number ≡ true }
+{
+    match tags.get(place) {
+        Some(tag) => tag.no.get() == number,
+        None => false,
+    }
 }

@@ -20,7 +20,7 @@ use crate::remaining::Remaining;
 use crate::so_far::{BreakSoFar, breaks_with, takes_brace, takes_feed, takes_return};
 use crate::{Breaks, Form, Message, Tags};
 use faim_base::{NoMemory, Refused, TagNo, after};
-use faim_tags::TagPart;
+use faim_tags::{TagPart, close_alike, go_on, go_on_alike};
 use std::alloc::Global;
 
 /// How far a message is read, without the bytes that were read: those for which it `HasRead`.
@@ -138,9 +138,44 @@ impl MessagePart {
         count
     }
 
-    // Reads one byte, where some message goes on with it.
+    // Reads one byte, where some message goes on with it. Most bytes are those of elements, or that which a number is
+    // expected to have next: their way is kept short.
     #[inline(never)]
     fn read_byte(&mut self, b: u8) -> bool
+        ensures form { form_of self.new ≡ form_of self.old }
+        ensures goes { (form : Form) (s : Stage) → StandsAt self.old form s → Follows self.new form result (next form s b) }
+    {
+        match &mut self.tag {
+            Some(tag) => match tag {
+                TagPart::Elements {
+                    no,
+                    fixed,
+                    stars,
+                    part,
+                } => {
+                    if go_on(*no, fixed, stars, part, b) {
+                        return true;
+                    }
+                    self.step_past_alone(b)
+                }
+                TagPart::Number { like, count } => {
+                    if go_on_alike(*like, count, b) {
+                        return true;
+                    }
+                    if let Some(next) = close_alike(*like, *count, b) {
+                        *tag = next;
+                        return true;
+                    }
+                    self.read_byte_apart(b)
+                }
+            },
+            None => self.read_byte_apart(b),
+        }
+    }
+
+    // As `read_byte`, kept apart for the other bytes of a number and those of a break.
+    #[inline(never)]
+    fn read_byte_apart(&mut self, b: u8) -> bool
         ensures form { form_of self.new ≡ form_of self.old }
         ensures goes { (form : Form) (s : Stage) → StandsAt self.old form s → Follows self.new form result (next form s b) }
     {
@@ -225,6 +260,7 @@ impl MessagePart {
     }
 
     // The number of the tag that may end here.
+    #[inline(always)]
     fn whole_tag(&self) -> Option<TagNo>
         ensures tag { (numbers : List ℕ) (p : Progress) → PartOf numbers self.now.tag p → EndsAs result p }
         ensures none { self.now.tag ≡ None → result ≡ None }

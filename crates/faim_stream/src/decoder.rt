@@ -1,5 +1,5 @@
 // A message that comes in pieces.
-ghost use Rattle.std.specs.Prelude.{◌≡◌, ◌≢◌, ◌+◌, ◌≤◌, ◌++◌, [], ℕ, List, length, Some, None, IfOk, IfErr, vec_len, vec_capacity};
+ghost use Rattle.std.specs.Prelude.{◌≡◌, ◌≢◌, ◌+◌, ◌<◌, ◌≤◌, ◌++◌, ◌∷◌, [], ℕ, List, length, Some, None, IfOk, IfErr, vec_len, vec_capacity};
 ghost use Rattle.faim_base.specs.declared.judgement.Refused.{Refused};
 ghost use Rattle.faim_message.specs.Spelling.{Spells};
 ghost use Rattle.faim_message.specs.Refusal.{Refuses};
@@ -54,7 +54,31 @@ impl Decoder {
     /// longest beginning of a message of the form that has p bytes and is shorter than they are; each later call then
     /// answers the same. There is no other refusal. It takes no memory, and the cost of a byte doesn't grow with what was
     /// fed before (docs/FORMATS.md, "Messages").
+    #[inline(always)]
     pub fn feed(&mut self, piece: &[u8]) -> Result<(), Refused>
+        ensures form { self.new.form ≡ self.old.form }
+        ensures fed { (fed : List ℕ) → IsFed self.old fed → IsFed self.new (fed ++ piece.now) }
+        ensures judged { (fed : List ℕ) → IsFed self.old fed → Judges self.old.form (fed ++ piece.now) result }
+    {
+        if piece.len() == 1 {
+            self.take(piece)
+        } else {
+            self.take_apart(piece)
+        }
+    }
+
+    // As `feed`, kept apart for pieces that aren't one byte, so that the way of one byte stays short.
+    fn take_apart(&mut self, piece: &[u8]) -> Result<(), Refused>
+        ensures form { self.new.form ≡ self.old.form }
+        ensures fed { (fed : List ℕ) → IsFed self.old fed → IsFed self.new (fed ++ piece.now) }
+        ensures judged { (fed : List ℕ) → IsFed self.old fed → Judges self.old.form (fed ++ piece.now) result }
+    {
+        self.take(piece)
+    }
+
+    // As `feed`, for a piece of any length.
+    #[inline(always)]
+    fn take(&mut self, piece: &[u8]) -> Result<(), Refused>
         ensures form { self.new.form ≡ self.old.form }
         ensures fed { (fed : List ℕ) → IsFed self.old fed → IsFed self.new (fed ++ piece.now) }
         ensures judged { (fed : List ℕ) → IsFed self.old fed → Judges self.old.form (fed ++ piece.now) result }
@@ -62,8 +86,8 @@ impl Decoder {
         if let Some(place) = self.stop {
             return Err(Refused::Byte(place));
         }
-        let held = self.room.len();
         let count = self.part.read(piece);
+        let held = self.room.len();
         if count < piece.len() {
             self.stop = Some(held + count);
             return Err(Refused::Byte(held + count));
@@ -93,7 +117,22 @@ fn keep(room: &mut Vec<u8>, piece: &[u8])
     ensures items { room.new.items ≡ room.old.items ++ piece.now }
     ensures capacity { vec_capacity room.old ≤ vec_capacity room.new }
 {
+    if piece.len() == 1 {
+        return keep_byte(room, piece[0]);
+    }
     match room.extend_from_slice(piece) {
+        Ok(()) => {}
+        Err(_) => unreachable!(),
+    }
+}
+
+// As `keep`, for a byte that comes alone.
+fn keep_byte(room: &mut Vec<u8>, b: u8)
+    requires { vec_len room.old < vec_capacity room.old }
+    ensures items { room.new.items ≡ room.old.items ++ b ∷ [] }
+    ensures capacity { vec_capacity room.old ≤ vec_capacity room.new }
+{
+    match room.push(b) {
         Ok(()) => {}
         Err(_) => unreachable!(),
     }

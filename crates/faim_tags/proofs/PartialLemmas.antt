@@ -8,7 +8,7 @@ use Rattle.std.proofs.Math.Seq.{take-append_seam}
 use Rattle.faim_base.specs.Tags.{is_tag_number}
 use Rattle.faim_tags.specs.Spelling.{braced}
 use Rattle.faim_tags.specs.Reading.{is_among}
-use Rattle.faim_tags.specs.Steps.{Progress, InNumber, Inside, numbers_begin, number_in, with_number}
+use Rattle.faim_tags.specs.Steps.{Progress, InNumber, Inside, numbers_begin, number_in, with_number, step}
 use Rattle.faim_tags.specs.Partial.{StandsFor, BothStand, NextNumber, is_start}
 use Rattle.faim_tags.specs.declared.partial.TagPart.{TagPart}
 use Rattle.faim_tags.specs.declared.partial.TagPart.TheVariants.{Number}
@@ -83,6 +83,14 @@ number_on ns like count b n t given next part whole is =
           let all : take (count + 1) (braced n) ≡ braced n = take_all (count + 1) (braced n) (omega arith) in
           subst P (sym all) (subst R (sym (number_whole ns n next.listed (subst Q all begins))) (whole ge))
     ])
+
+-- the next byte of the number that it began as
+pub alike_on : (ns : List ℕ) (like count b : ℕ) (t : TagPart) (p : Progress) → 0 < count → count < 6 → is_tag_number like ≡ true → get_or (braced like) count 0 ≡ b
+    → (count < 5 → is_among ns like ≡ true → StandsFor ns t (InNumber (take (count + 1) (braced like)))) → (5 ≤ count → StandsFor ns t (Inside like [] [] []))
+    → StandsFor ns (Number like count) p → BothStand ns (Some t) (step ns p b)
+alike_on ns like count b t (InNumber given) some few listed is part whole h =
+    number_on ns like count b like t given (next_same ns like count b few listed (h.2 some) is) part whole h.1
+alike_on ns like count b t (Inside m fs ss last) some few listed is part whole h = absurd h
 
 -- nothing is read where no byte is
 pub start_is : (ns : List ℕ) (t : TagPart) (like count : ℕ) → t ≡ Number like count → (p : Progress) → StandsFor ns t p → eqb count 0 ≡ is_start p

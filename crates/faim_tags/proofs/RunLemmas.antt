@@ -6,7 +6,7 @@ use Rattle.std.proofs.lemmas.List.{length-append, length_push, length-take-le, l
 use Rattle.std.proofs.Math.Seq.{take-add}
 use Rattle.faim_base.specs.Tags.{is_tag_number}
 use Rattle.faim_base.specs.Text.{is_text_byte, is_digit}
-use Rattle.faim_tags.specs.Layouts.{row_of, each_class, classes, maxima, is_of_class}
+use Rattle.faim_tags.specs.Layouts.{each_class, classes, maxima, is_of_class}
 use Rattle.faim_tags.specs.Spelling.{braced}
 use Rattle.faim_tags.specs.Reading.{is_among}
 use Rattle.faim_tags.specs.Steps.{Progress, InNumber, Inside, step, steps, numbers_begin}
@@ -96,11 +96,11 @@ reads_number ns like (suc zero) bytes n (InNumber given) f h =
 reads_number ns like (suc (suc count)) bytes n (InNumber given) f h = absurd (omega (arith, f.few))
 
 -- fixed bytes after the first ones
-pub reads_fixed : (ns : List ℕ) (n : ℕ) (elements : List (ℕ × ℕ)) (fixed stars part : ℕ) (bytes : List ℕ) (k : ℕ) (p : Progress) → elements ≡ (row_of n).elements → k ≡ run_length (drop fixed (each_class elements)) bytes → StandsFor ns (Elements n fixed stars part) p → Reads ns p bytes k (Elements n (fixed + k) stars part)
+pub reads_fixed : (ns : List ℕ) (n : ℕ) (elements : List (ℕ × ℕ)) (fixed stars part : ℕ) (bytes : List ℕ) (k : ℕ) (p : Progress) → each_class elements ≡ classes n → k ≡ run_length (drop fixed (each_class elements)) bytes → StandsFor ns (Elements n fixed stars part) p → Reads ns p bytes k (Elements n (fixed + k) stars part)
 reads_fixed ns n elements fixed stars part bytes k (InNumber given) is counted h = absurd h
 reads_fixed ns n elements fixed stars part bytes k (Inside m fs ss last) is counted h =
     let cs = drop (length fs) (classes n) in
-    let k_is : k ≡ run_length cs bytes = counted ∙ ap (λ (xs : List (ℕ × ℕ)). run_length (drop fixed (each_class xs)) bytes) is ∙ ap (λ (j : ℕ). run_length (drop j (classes n)) bytes) h.1 in
+    let k_is : k ≡ run_length cs bytes = counted ∙ ap (λ (xs : List ℕ). run_length (drop fixed xs) bytes) is ∙ ap (λ (j : ℕ). run_length (drop j (classes n)) bytes) h.1 in
     let len : length (take k bytes) ≡ k = length-take-le k bytes (omega (arith, (run_length-short cs bytes).1)) in
     let P : ℕ → Type 0 = λ j. run_length cs (take j bytes) ≡ j in
     let run = steps-fixed ns n fs cs (take k bytes) ss last refl (subst P (sym k_is) (run_length-take cs bytes) ∙ sym len) in
@@ -162,11 +162,11 @@ fixed_stop ns n fixed stars part b (Inside m fs ss last) lt wrong h =
     subst P h.0 none
 
 -- the fixed bytes aren't all there
-pub reaches_fixed : (ns : List ℕ) (n : ℕ) (elements : List (ℕ × ℕ)) (fixed stars part : ℕ) (bytes : List ℕ) (k : ℕ) (p : Progress) → elements ≡ (row_of n).elements → k ≡ run_length (drop fixed (each_class elements)) bytes → fixed + k < length (each_class elements) → StandsFor ns (Elements n fixed stars part) p → Reaches ns p bytes k (Elements n (fixed + k) stars part)
+pub reaches_fixed : (ns : List ℕ) (n : ℕ) (elements : List (ℕ × ℕ)) (fixed stars part : ℕ) (bytes : List ℕ) (k : ℕ) (p : Progress) → each_class elements ≡ classes n → k ≡ run_length (drop fixed (each_class elements)) bytes → fixed + k < length (each_class elements) → StandsFor ns (Elements n fixed stars part) p → Reaches ns p bytes k (Elements n (fixed + k) stars part)
 reaches_fixed ns n elements fixed stars part bytes k p is counted short h =
     let cs = drop fixed (classes n) in
-    let k_is : k ≡ run_length cs bytes = counted ∙ ap (λ (xs : List (ℕ × ℕ)). run_length (drop fixed (each_class xs)) bytes) is in
-    let all : length (each_class elements) ≡ length (classes n) = ap (λ (xs : List (ℕ × ℕ)). length (each_class xs)) is in
+    let k_is : k ≡ run_length cs bytes = counted ∙ ap (λ (xs : List ℕ). run_length (drop fixed xs) bytes) is in
+    let all : length (each_class elements) ≡ length (classes n) = ap length is in
     reaches_here ns p bytes k (Elements n (fixed + k) stars part) (reads_fixed ns n elements fixed stars part bytes k p is counted h) (omega (arith, (run_length-short cs bytes).1)) (λ q stands lt.
     let P : ℕ → Type 0 = λ j. is_of_class (get_or cs j 0) (get_or bytes j 0) ≡ false in
     let Q : ℕ → Type 0 = λ c. is_of_class c (get_or bytes k 0) ≡ false in

@@ -20,7 +20,7 @@ pub use laws::{
     steps_tell_what_begins, table_is_sound,
 };
 pub use lookup::layout;
-pub use partial::TagPart;
+pub use partial::{TagPart, close_alike, go_on, go_on_alike};
 pub use reading::{read_tag, read_tag_among};
 pub use short_bytes::ShortBytes;
 pub use table::Layout;

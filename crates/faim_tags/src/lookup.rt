@@ -1,6 +1,6 @@
 // Which layout a tag has.
 ghost use Rattle.std.specs.Prelude.{◌≡◌, ◌≤◌, length, slice_index};
-ghost use Rattle.faim_tags.specs.Layouts.{classes, row_of, maxima};
+ghost use Rattle.faim_tags.specs.Layouts.{classes, each_class, row_of, maxima};
 
 use crate::table;
 use crate::table::Layout;
@@ -15,7 +15,7 @@ pub fn layout(no: TagNo) -> &'static Layout
     sized_layout(no)
 }
 
-// As `layout`, and the class of each byte of the fixed elements.
+// As `layout`, and the class of each byte of the fixed elements, one by one and in runs.
 #[inline(always)]
 #[tactic(auto, unfolding(crate::specs::Layouts::row_of))]
 pub(crate) fn sized_layout(no: TagNo) -> &'static Layout
@@ -23,6 +23,8 @@ pub(crate) fn sized_layout(no: TagNo) -> &'static Layout
     ensures stars { result.now.stars.now ≡ (row_of no).most }
     ensures few { length result.now.fixed.now ≤ 100 }
     ensures classes { result.now.classes.now ≡ classes no }
+    ensures runs { each_class result.now.runs.now ≡ classes no }
+    ensures few_runs { length result.now.runs.now ≤ 100 }
 {
     match no.get() {
         1100 => &table::DISPOSITION,

@@ -1,5 +1,5 @@
 // The number that a tag begins with.
-ghost use Rattle.std.specs.Prelude.{◌≡◌, ◌+◌, ◌*◌, ◌-◌, ◌<◌, ◌≤◌, ℕ, [], ◌∷◌, take, drop, length, slice_index, true, Some, IfSome, is_some, nat_eq};
+ghost use Rattle.std.specs.Prelude.{◌≡◌, ◌+◌, ◌*◌, ◌-◌, ◌<◌, ◌≤◌, ℕ, [], ◌∷◌, take, drop, length, slice_index, true, Some, None, IfSome, if◌then◌else◌, is_some, nat_eq};
 ghost use Rattle.std.specs.List.{list_all, starts_with};
 ghost use Rattle.faim_base.specs.Tags.{is_tag_number};
 ghost use Rattle.faim_tags.specs.Spelling.{braced};
@@ -41,7 +41,13 @@ pub(crate) fn byte_of(number: u16, place: usize) -> u8
 }
 
 // The number, one of these, of which all bytes in braces stand at the front but for the first ones, at most one of them.
-pub(crate) fn number_after(count: usize, numbers: &[u16], bytes: &[u8]) -> Option<TagNo>
+// Often it is the number `like`.
+pub(crate) fn number_after(
+    like: TagNo,
+    count: usize,
+    numbers: &[u16],
+    bytes: &[u8],
+) -> Option<TagNo>
     requires { list_all is_tag_number numbers.now ≡ true }
     ensures { IfSome result (λ n. FollowsBrace numbers.now count bytes.now n) }
 {
@@ -54,12 +60,23 @@ pub(crate) fn number_after(count: usize, numbers: &[u16], bytes: &[u8]) -> Optio
     match closed_number(after(bytes, 1 - count)) {
         Some(number) => {
             if is_among(numbers, number) {
-                TagNo::new(number)
+                tag_no(like, number)
             } else {
                 None
             }
         }
         None => None,
+    }
+}
+
+// The tag's number. No search is needed where it is the number `like`.
+fn tag_no(like: TagNo, number: u16) -> Option<TagNo>
+    ensures { result ≡ (if is_tag_number number then Some number else None) }
+{
+    if number == like.get() {
+        Some(like)
+    } else {
+        TagNo::new(number)
     }
 }
 

@@ -1,5 +1,5 @@
 // One tag byte by byte, without memory of its bytes.
-ghost use Rattle.std.specs.Prelude.{◌≡◌, ◌+◌, ◌^◌, ◌<◌, ◌≤◌, ◌++◌, ◌∷◌, [], ℕ, List, length, take, slice_index, true, false, IfSome, MatchOption};
+ghost use Rattle.std.specs.Prelude.{◌≡◌, ◌+◌, ◌<◌, ◌≤◌, ◌++◌, ◌∷◌, [], ℕ, List, Some, None, length, take, true, false, IfSome, MatchOption};
 ghost use Rattle.std.specs.List.{list_all};
 ghost use Rattle.faim_base.specs.Tags.{is_tag_number};
 ghost use Rattle.faim_tags.specs.Layouts.{classes, maxima};
@@ -89,6 +89,7 @@ impl TagPart {
     }
 
     /// The number of the tag that may end here. None exactly where none may.
+    #[inline(always)]
     pub fn whole(&self) -> Option<TagNo>
         ensures { (numbers : List ℕ) (p : Progress) → StandsFor numbers self.now p → EndsAs result p }
     {
@@ -116,7 +117,7 @@ fn read_from_number(like: TagNo, count: usize, numbers: &[u16], bytes: &[u8]) ->
     ensures within { result.1 ≤ length bytes.now }
     ensures read { (p : Progress) → StandsFor numbers.now (TagPart.Number like count) p → Reaches numbers.now p bytes.now result.1 result.0 }
 {
-    match number_after(count, numbers, bytes) {
+    match number_after(like, count, numbers, bytes) {
         Some(no) => {
             let (last, length) = read_elements(no, 0, 0, 0, after(bytes, 6 - count));
             (last, 6 - count + length)
@@ -168,7 +169,7 @@ fn read_elements(
     ensures read { (ns : List ℕ) (p : Progress) → StandsFor ns (TagPart.Elements no fixed stars part) p → Reaches ns p bytes.now result.1 result.0 }
 {
     let layout = sized_layout(no);
-    let (run, whole) = run_from(layout.fixed, fixed, bytes);
+    let (run, whole) = run_from(layout.runs, fixed, bytes);
     let fixed = fixed + run;
     if !whole {
         return (
@@ -234,6 +235,7 @@ fn read_stars(
 }
 
 // What the next byte makes of part of a number.
+#[inline(always)]
 fn step_number(like: TagNo, count: usize, numbers: &[u16], b: u8) -> Option<TagPart>
     requires { list_all is_tag_number numbers.now ≡ true }
     ensures { (given : List ℕ) → count < 6 → given ≡ take count (braced like) → (0 < count → is_among numbers.now like ≡ true)
@@ -246,6 +248,7 @@ fn step_number(like: TagNo, count: usize, numbers: &[u16], b: u8) -> Option<TagP
 }
 
 // One byte more of a number is read: part of it, or the whole.
+#[inline(always)]
 fn with_number(no: TagNo, count: usize) -> TagPart
     requires { count < 6 }
     ensures part { (numbers : List ℕ) → count < 5 → is_among numbers no ≡ true → StandsFor numbers result (InNumber (take (count + 1) (braced no))) }
@@ -268,6 +271,7 @@ fn with_number(no: TagNo, count: usize) -> TagPart
 
 // One of the numbers that begins in braces as another number does, and then with the byte. That one is it, where it is
 // among them and goes on with the byte.
+#[inline(always)]
 fn next_number(like: TagNo, count: usize, numbers: &[u16], b: u8) -> Option<TagNo>
     requires { list_all is_tag_number numbers.now ≡ true }
     ensures few { IfSome result (λ _. count < 6) }
@@ -293,6 +297,7 @@ fn next_number(like: TagNo, count: usize, numbers: &[u16], b: u8) -> Option<TagN
 }
 
 // The first of the numbers, where the byte begins one.
+#[inline(always)]
 fn first_number(like: TagNo, numbers: &[u16], b: u8) -> Option<TagNo>
     requires { list_all is_tag_number numbers.now ≡ true }
     ensures { MatchOption result (numbers_begin numbers.now (b ∷ []) ≡ false) (λ n. NextNumber numbers.now like 0 b n) }
@@ -303,74 +308,91 @@ fn first_number(like: TagNo, numbers: &[u16], b: u8) -> Option<TagNo>
     TagNo::new(numbers[0])
 }
 
-// What the next byte makes of a tag whose number is read.
+// As `step`, of the part `Elements` with these numbers.
+#[inline(always)]
 fn step_element(no: TagNo, fixed: usize, stars: usize, part: usize, b: u8) -> Option<TagPart>
     ensures { (ns : List ℕ) (p : Progress) → StandsFor ns (TagPart.Elements no fixed stars part) p → BothStand ns result (step ns p b) }
 {
-    let layout = sized_layout(no);
-    if fixed < layout.classes.len() {
-        return step_fixed(no, fixed, stars, part, layout.classes[fixed], b);
-    }
-    if stars < layout.stars.len() {
-        step_star(no, fixed, stars, part, layout.stars[stars], b)
+    let (mut fixed, mut stars, mut part) = (fixed, stars, part);
+    if go_on(no, &mut fixed, &mut stars, &mut part, b) {
+        Some(TagPart::Elements {
+            no,
+            fixed,
+            stars,
+            part,
+        })
     } else {
         None
     }
 }
 
-// What the next byte makes of part of the fixed elements, where it has to be of a class.
-fn step_fixed(
-    no: TagNo,
-    fixed: usize,
-    stars: usize,
-    part: usize,
-    class: u8,
-    b: u8,
-) -> Option<TagPart>
-    requires part { fixed < length (classes no) }
-    requires room { fixed < 2 ^ 63 }
-    requires class { class ≡ slice_index (classes no) fixed }
-    ensures { (ns : List ℕ) (p : Progress) → StandsFor ns (TagPart.Elements no fixed stars part) p → BothStand ns result (step ns p b) }
+/// Reads the next byte of the elements of the tag with this number, and answers whether some tag goes on with it: which
+/// other numbers it may have had doesn't matter then. The counts are those of the part `Elements`; where none goes on
+/// they stay as they are (docs/FORMATS.md, "Tags").
+#[inline(always)]
+pub fn go_on(no: TagNo, fixed: &mut usize, stars: &mut usize, part: &mut usize, b: u8) -> bool
+    ensures on { result ≡ true → (ns : List ℕ) (p : Progress) → StandsFor ns (TagPart.Elements no fixed.old stars.old part.old) p
+        → BothStand ns (Some (TagPart.Elements no fixed.new stars.new part.new)) (step ns p b) }
+    ensures off { result ≡ false → (ns : List ℕ) (p : Progress) → StandsFor ns (TagPart.Elements no fixed.old stars.old part.old) p
+        → BothStand ns None (step ns p b) }
+    ensures same_fixed { result ≡ false → fixed.new ≡ fixed.old }
+    ensures same_stars { result ≡ false → stars.new ≡ stars.old }
+    ensures same_part { result ≡ false → part.new ≡ part.old }
 {
-    if !is_of_class(class, b) {
-        return None;
+    let layout = sized_layout(no);
+    if *fixed < layout.classes.len() {
+        if !is_of_class(layout.classes[*fixed], b) {
+            return false;
+        }
+        *fixed += 1;
+        return true;
     }
-    Some(TagPart::Elements {
-        no,
-        fixed: fixed + 1,
-        stars,
-        part,
-    })
+    if layout.stars.len() <= *stars {
+        return false;
+    }
+    if b == b'*' {
+        *stars += 1;
+        *part = 0;
+        return true;
+    }
+    if !is_text(b) || usize::from(layout.stars[*stars]) <= *part {
+        return false;
+    }
+    *part += 1;
+    true
 }
 
-// What the next byte makes of part of a star element of at most so many bytes.
-fn step_star(no: TagNo, fixed: usize, stars: usize, part: usize, most: u8, b: u8) -> Option<TagPart>
-    requires whole { length (classes no) ≤ fixed }
-    requires more { stars < length (maxima no) }
-    requires room { stars < 2 ^ 63 }
-    requires most { most ≡ slice_index (maxima no) stars }
-    ensures { (ns : List ℕ) (p : Progress) → StandsFor ns (TagPart.Elements no fixed stars part) p → BothStand ns result (step ns p b) }
+/// Reads the next byte of a number in braces where it is the next one of the number `like` and the closing brace comes
+/// later, and answers whether it did: the other numbers aren't looked at then. The count is that of the part `Number`;
+/// where the byte isn't read it stays as it is (docs/FORMATS.md, "Tags").
+#[inline(always)]
+pub fn go_on_alike(like: TagNo, count: &mut usize, b: u8) -> bool
+    ensures on { result ≡ true → (numbers : List ℕ) (p : Progress) → StandsFor numbers (TagPart.Number like count.old) p
+        → BothStand numbers (Some (TagPart.Number like count.new)) (step numbers p b) }
+    ensures same { result ≡ false → count.new ≡ count.old }
 {
-    if b == b'*' {
-        return Some(TagPart::Elements {
-            no,
-            fixed,
-            stars: stars + 1,
-            part: 0,
-        });
+    if *count == 0 || 5 <= *count || byte_of(like.get(), *count) != b {
+        return false;
     }
-    if !is_text(b) || usize::from(most) <= part {
-        return None;
+    *count += 1;
+    true
+}
+
+/// As `step`, of the part `Number` with these, where the byte is the closing brace of the number `like`: the other
+/// numbers aren't looked at then. None tells nothing (docs/FORMATS.md, "Tags").
+#[inline(always)]
+pub fn close_alike(like: TagNo, count: usize, b: u8) -> Option<TagPart>
+    ensures { IfSome result (λ t. (numbers : List ℕ) (p : Progress) → StandsFor numbers (TagPart.Number like count) p
+        → BothStand numbers (Some t) (step numbers p b)) }
+{
+    if count == 5 && byte_of(like.get(), count) == b {
+        return Some(with_number(like, count));
     }
-    Some(TagPart::Elements {
-        no,
-        fixed,
-        stars,
-        part: part + 1,
-    })
+    None
 }
 
 // A tag may end after so many of its fixed bytes, of its closed star elements, and of the bytes of a further one.
+#[inline(always)]
 pub(crate) fn may_end(no: TagNo, fixed: usize, stars: usize, part: usize) -> bool
     ensures { (fs last : List ℕ) (ss : List (List ℕ)) → fixed ≡ length fs → stars ≡ length ss → part ≡ length last
         → result ≡ may_end (Inside no fs ss last) }

@@ -6,6 +6,8 @@ pub struct Layout {
     pub fixed: &'static [(u8, u8)],
     // The class of each byte of the fixed elements.
     pub(crate) classes: &'static [u8],
+    // The same as pairs of a class and a length, of which no two neighbours have one class.
+    pub(crate) runs: &'static [(u8, u8)],
     pub stars: &'static [u8],
 }
 
@@ -13,6 +15,7 @@ pub struct Layout {
 pub(crate) static DISPOSITION: Layout = Layout {
     fixed: &[(b't', 2), (b't', 1), (b't', 1), (b't', 1)],
     classes: b"ttttt",
+    runs: &[(b't', 5)],
     stars: &[],
 };
 
@@ -20,6 +23,7 @@ pub(crate) static DISPOSITION: Layout = Layout {
 pub(crate) static RECEIPT: Layout = Layout {
     fixed: &[(b'n', 4), (b'n', 4), (b't', 4)],
     classes: b"nnnnnnnntttt",
+    runs: &[(b'n', 8), (b't', 4)],
     stars: &[],
 };
 
@@ -34,6 +38,7 @@ pub(crate) static OUTPUT_IDENTIFIER: Layout = Layout {
         (b't', 4),
     ],
     classes: b"nnnnnnnnttttttttnnnnnnnnnnnnnntttt",
+    runs: &[(b'n', 8), (b't', 8), (b'n', 14), (b't', 4)],
     stars: &[],
 };
 
@@ -41,6 +46,7 @@ pub(crate) static OUTPUT_IDENTIFIER: Layout = Layout {
 pub(crate) static ERROR: Layout = Layout {
     fixed: &[(b't', 1), (b'n', 3)],
     classes: b"tnnn",
+    runs: &[(b't', 1), (b'n', 3)],
     stars: &[35],
 };
 
@@ -48,6 +54,7 @@ pub(crate) static ERROR: Layout = Layout {
 pub(crate) static SENDER_SUPPLIED: Layout = Layout {
     fixed: &[(b't', 2), (b't', 8), (b't', 1), (b't', 1)],
     classes: b"tttttttttttt",
+    runs: &[(b't', 12)],
     stars: &[],
 };
 
@@ -55,6 +62,7 @@ pub(crate) static SENDER_SUPPLIED: Layout = Layout {
 pub(crate) static TYPE_AND_SUBTYPE: Layout = Layout {
     fixed: &[(b'n', 2), (b'n', 2)],
     classes: b"nnnn",
+    runs: &[(b'n', 4)],
     stars: &[],
 };
 
@@ -62,6 +70,7 @@ pub(crate) static TYPE_AND_SUBTYPE: Layout = Layout {
 pub(crate) static INPUT_IDENTIFIER: Layout = Layout {
     fixed: &[(b'n', 8), (b't', 8), (b'n', 6)],
     classes: b"nnnnnnnnttttttttnnnnnn",
+    runs: &[(b'n', 8), (b't', 8), (b'n', 6)],
     stars: &[],
 };
 
@@ -69,6 +78,7 @@ pub(crate) static INPUT_IDENTIFIER: Layout = Layout {
 pub(crate) static AMOUNT: Layout = Layout {
     fixed: &[(b'n', 12)],
     classes: b"nnnnnnnnnnnn",
+    runs: &[(b'n', 12)],
     stars: &[],
 };
 
@@ -76,6 +86,7 @@ pub(crate) static AMOUNT: Layout = Layout {
 pub(crate) static BANK: Layout = Layout {
     fixed: &[(b'n', 9)],
     classes: b"nnnnnnnnn",
+    runs: &[(b'n', 9)],
     stars: &[18],
 };
 
@@ -83,6 +94,7 @@ pub(crate) static BANK: Layout = Layout {
 pub(crate) static REFERENCE: Layout = Layout {
     fixed: &[],
     classes: b"",
+    runs: &[],
     stars: &[16],
 };
 
@@ -90,6 +102,7 @@ pub(crate) static REFERENCE: Layout = Layout {
 pub(crate) static PREVIOUS: Layout = Layout {
     fixed: &[],
     classes: b"",
+    runs: &[],
     stars: &[22],
 };
 
@@ -97,6 +110,7 @@ pub(crate) static PREVIOUS: Layout = Layout {
 pub(crate) static FUNCTION: Layout = Layout {
     fixed: &[(b't', 3)],
     classes: b"ttt",
+    runs: &[(b't', 3)],
     stars: &[3],
 };
 
@@ -104,6 +118,7 @@ pub(crate) static FUNCTION: Layout = Layout {
 pub(crate) static PARTY: Layout = Layout {
     fixed: &[(b't', 1)],
     classes: b"t",
+    runs: &[(b't', 1)],
     stars: &[34, 35, 35, 35, 35],
 };
 
@@ -111,6 +126,7 @@ pub(crate) static PARTY: Layout = Layout {
 pub(crate) static ACCOUNT: Layout = Layout {
     fixed: &[(b'n', 9)],
     classes: b"nnnnnnnnn",
+    runs: &[(b'n', 9)],
     stars: &[],
 };
 
@@ -118,6 +134,7 @@ pub(crate) static ACCOUNT: Layout = Layout {
 pub(crate) static FOUR_LINES: Layout = Layout {
     fixed: &[],
     classes: b"",
+    runs: &[],
     stars: &[35, 35, 35, 35],
 };
 
@@ -125,6 +142,7 @@ pub(crate) static FOUR_LINES: Layout = Layout {
 pub(crate) static NOTICE: Layout = Layout {
     fixed: &[],
     classes: b"",
+    runs: &[],
     stars: &[30, 33, 33, 33, 33, 33],
 };
 
@@ -132,6 +150,7 @@ pub(crate) static NOTICE: Layout = Layout {
 pub(crate) static ADVICE: Layout = Layout {
     fixed: &[(b't', 3)],
     classes: b"ttt",
+    runs: &[(b't', 3)],
     stars: &[26, 33, 33, 33, 33, 33],
 };
 
@@ -139,6 +158,7 @@ pub(crate) static ADVICE: Layout = Layout {
 pub(crate) static METHOD: Layout = Layout {
     fixed: &[(b't', 5)],
     classes: b"ttttt",
+    runs: &[(b't', 5)],
     stars: &[30],
 };
 
@@ -146,6 +166,7 @@ pub(crate) static METHOD: Layout = Layout {
 pub(crate) static SIX_LINES: Layout = Layout {
     fixed: &[],
     classes: b"",
+    runs: &[],
     stars: &[35, 35, 35, 35, 35, 35],
 };
 
@@ -153,5 +174,6 @@ pub(crate) static SIX_LINES: Layout = Layout {
 pub(crate) static TWELVE_LINES: Layout = Layout {
     fixed: &[],
     classes: b"",
+    runs: &[],
     stars: &[35, 35, 35, 35, 35, 35, 35, 35, 35, 35, 35, 35],
 };

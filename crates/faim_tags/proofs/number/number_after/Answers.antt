@@ -14,6 +14,6 @@ returns-then-is_among c =
     let among = sym c.is_among.ensures ∙ c.if-is_among.true in
     let rest = ap (take 5) (sym c.after.ensures) ∙ c.in-Some.ensures in
     let listed = known_new ns n c.requires among in
-    let is : c.new.result ≡ Some n = c.new.ensures ∙ ap (λ (t : Bool). if t then Some n else None) listed in
+    let is : c.tag_no.result ≡ Some n = c.tag_no.ensures ∙ ap (λ (t : Bool). if t then Some n else None) listed in
     let P : Option ℕ → Type 0 = λ o. IfSome o (λ m. FollowsBrace ns count bytes m) in
     subst P (sym is) (follows_brace ns count bytes n (omega arith) (omega arith) c.requires among (c.has_brace.ensures c.if-not-has_brace.false) rest)

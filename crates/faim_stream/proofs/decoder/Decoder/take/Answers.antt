@@ -6,7 +6,7 @@ use Rattle.faim_message.proofs.PartialLemmas.{read_begins}
 use Rattle.faim_message.proofs.Reasons.{begun_short, stops_short}
 use Rattle.faim_stream.specs.Fed.{Held}
 use Rattle.faim_stream.proofs.Feeding.{stopped_more, still_fed, going}
-use Rattle.faim_stream.proofs.decoder.Decoder.feed.Goals as goal
+use Rattle.faim_stream.proofs.decoder.Decoder.take.Goals as goal
 
 pub returns-in-Some-clause-fed : goal.returns-in-Some-clause-fed
 returns-in-Some-clause-fed c fed h =

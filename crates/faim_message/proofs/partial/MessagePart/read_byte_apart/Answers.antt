@@ -1,5 +1,5 @@
 use Rattle.faim_message.proofs.PartialLemmas.{tag_goes, tag_past, past_goes}
-use Rattle.faim_message.proofs.partial.MessagePart.read_byte.Goals as goal
+use Rattle.faim_message.proofs.partial.MessagePart.read_byte_apart.Goals as goal
 
 pub returns-in-Some-clause-goes : goal.returns-in-Some-clause-goes
 returns-in-Some-clause-goes c form s h =
