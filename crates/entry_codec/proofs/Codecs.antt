@@ -1,8 +1,8 @@
 -- Readers that take exactly the spellings: what is read is spelled so, and what is spelled is read again.
-use Rattle.std.proofs.Common.{◌≡◌, ⊎_elim, ℕ, suc, ◌+◌, ◌^◌, ◌<◌, ◌≤◌, Bool, true, false, cond, ltb, List, [], ◌∷◌, ◌++◌, length, get_or, take, drop, Option, Some, None, refl, sym, ◌∙◌, ap, subst, append_assoc, take-append-drop, length-append, length-take, arith}
+use Rattle.std.proofs.Common.{◌≡◌, ◌⊎◌, inl, inr, ⊎_elim, ℕ, suc, ◌+◌, ◌^◌, ◌<◌, ◌≤◌, ◌==◌, Bool, true, false, cond, ltb, List, [], ◌∷◌, ◌++◌, length, get_or, take, drop, Option, Some, None, refl, sym, ◌∙◌, ap, subst, append_assoc, take-append-drop, length-append, length-take, arith}
 use Rattle.std.specs.Prelude.{IsTrue}
 use Rattle.std.specs.Int.{Width, w16, w32, w64, byte_len, from_be_bytes, to_be_bytes}
-use Rattle.std.proofs.lemmas.Bool.{cases_lt, ltb-false, le-ltb}
+use Rattle.std.proofs.lemmas.Bool.{cases_lt, eqb-true, ltb-false, le-ltb}
 use Rattle.std.proofs.lemmas.List.{take_at, drop_at, get_or-drop, get_or_append_left, get_or_past}
 use Rattle.std.proofs.lemmas.Nat.{be_bytes_2, be_bytes_4, be_bytes_8, from_be_bytes-to_be_bytes_2, from_be_bytes-to_be_bytes_4, from_be_bytes-to_be_bytes_8}
 use Rattle.entry_codec.specs.Reading.{◌>>=◌, tested, piece_at, number_at, byte_at}
@@ -18,6 +18,10 @@ pub record Takes (bytes text rest : List ℕ) : Type 0 where
 pub then_takes : (a x b y c : List ℕ) → Takes a x b → Takes b y c → Takes a (x ++ y) c
 then_takes a x b y c p q = record { parts = p.parts ∙ ap (λ (t : List ℕ). x ++ t) q.parts ∙ sym (append_assoc x y c); fits = q.fits }
 
+-- a text after its letter
+pub lettered : (letter b : ℕ) (bytes text rest : List ℕ) → (b == letter) ≡ true → Takes bytes text rest → Takes (b ∷ bytes) (letter ∷ text) rest
+lettered letter b bytes text rest is t = record { parts = ap (λ (k : ℕ). k ∷ bytes) (eqb-true b letter is) ∙ ap (λ (l : List ℕ). letter ∷ l) t.parts; fits = t.fits }
+
 pub record Reads {A : Type 0} (text : A → List ℕ) (Fits : A → Type 0) (at : List ℕ → Option (A × List ℕ)) : Type 0 where
   pub takes : (bytes : List ℕ) (x : A × List ℕ) → IsBytes bytes → at bytes ≡ Some x → Takes bytes (text x.0) x.1 × Fits x.0
   pub again : (a : A) (rest : List ℕ) → Fits a → at (text a ++ rest) ≡ Some (a, rest)
@@ -32,6 +36,16 @@ bind_some None k y e = absurd cc
 pub test_some : {A : Type 0} (b : Bool) (x y : A) → cond b (Some x) None ≡ Some y → (b ≡ true) × (x ≡ y)
 test_some true x y e = (refl, cc)
 test_some false x y e = absurd cc
+
+-- what is read only after a test
+pub chosen : {Y : Type 0} (b : Bool) (o : Option Y) (y : Y) → cond b o None ≡ Some y → (b ≡ true) × (o ≡ Some y)
+chosen true o y e = (refl, e)
+chosen false o y e = absurd cc
+
+-- which of two readers read
+pub either_some : {Y : Type 0} (b : Bool) (o p : Option Y) (y : Y) → cond b o p ≡ Some y → ((b ≡ true) × (o ≡ Some y)) ⊎ (p ≡ Some y)
+either_some true o p y e = inl (refl, e)
+either_some false o p y e = inr e
 
 pub guard_some : {A : Type 0} (b : Bool) (x y : A) → cond b None (Some x) ≡ Some y → (b ≡ false) × (x ≡ y)
 guard_some true x y e = absurd cc

@@ -1,8 +1,6 @@
 -- Whole configurations, read exactly.
-use Rattle.std.proofs.Common.{◌≡◌, ⊎_elim, ℕ, suc, ◌^◌, ◌<◌, ◌==◌, Bool, true, false, cond, List, [], ◌∷◌, ◌++◌, length, Option, Some, None, refl, sym, ◌∙◌, ap, subst, append_assoc, arith}
+use Rattle.std.proofs.Common.{◌≡◌, ⊎_elim, ℕ, suc, ◌^◌, ◌<◌, ◌==◌, List, [], ◌∷◌, ◌++◌, length, Option, Some, ◌∙◌, ap, subst, append_assoc, arith}
 use Rattle.std.specs.Int.{w16, w32, to_be_bytes}
-use Rattle.std.proofs.lemmas.Bool.{eqb-true}
-use Rattle.std.proofs.lemmas.List.{append-nil}
 use Rattle.faim_base.specs.Numbers.{IsDay}
 use Rattle.host_ledger.specs.Soundness.{IsEnv, IsConfig}
 use Rattle.host_ledger.specs.declared.config.Account.{Account}
@@ -11,8 +9,10 @@ use Rattle.entry_codec.specs.declared.fault.CodecFault.{CodecFault}
 use Rattle.entry_codec.specs.declared.fault.CodecFault.TheVariants as faults
 use Rattle.entry_codec.specs.Reading.{Fails, ◌>>=◌, number_at, byte_at, date_at}
 use Rattle.entry_codec.specs.Config.{accounts_bytes, config_bytes, accounts_at, fields_at, config_at}
-use Rattle.entry_codec.proofs.Codecs.{IsBytes, Takes, then_takes, some_is, step, step_again, byte_reads, reads16}
+use Rattle.entry_codec.proofs.Codecs.{IsBytes, Takes, then_takes, lettered, Reads, some_is, chosen, step, step_again, byte_reads, reads16}
+use Rattle.entry_codec.proofs.Fronts.{one_front}
 use Rattle.entry_codec.proofs.Pieces.{date_reads}
+use Rattle.entry_codec.proofs.Wholes.{found_whole, only_whole, not_damaged_whole}
 use Rattle.entry_codec.proofs.Accounts.{AreSpelled, are_spelled, accounts_reads}
 
 abbrev one : ℕ → List ℕ
@@ -32,7 +32,7 @@ record IsSpelled (c : Config) : Type 0 where
   bank : c.bank < 2 ^ 16
   accounts : AreSpelled c.accounts
 
-env_small : (env : ℕ) → IsEnv env → env < 256
+pub env_small : (env : ℕ) → IsEnv env → env < 256
 env_small env is = ⊎_elim (λ e. omega (arith, e)) (λ e. omega (arith, e)) is
 
 -- a sound configuration has a spelling
@@ -92,50 +92,31 @@ fields_again c rest fit =
     ∙ step_again short (λ n. n < 2 ^ 16) (number_at w16) reads16 (f3 c.env c.date c.customer) c.bank (a ++ rest) fit.bank
     ∙ step_again accounts_bytes AreSpelled accounts_at accounts_reads (f4 c.env c.date c.customer c.bank) c.accounts rest fit.accounts
 
-chosen : {Y : Type 0} (b : Bool) (o : Option Y) (y : Y) → cond b o None ≡ Some y → (b ≡ true) × (o ≡ Some y)
-chosen true o y e = (refl, e)
-chosen false o y e = absurd cc
-
 config_takes : (bytes : List ℕ) (x : Config × List ℕ) → IsBytes bytes → config_at bytes ≡ Some x → Takes bytes (config_bytes x.0) x.1 × IsSpelled x.0
 unfolding config_at
 config_takes [] x fits e = absurd cc
 config_takes (b ∷ bytes) x fits e =
     let g = chosen (b == 67) (fields_at bytes) x e in
     let t = fields_takes bytes x (λ i. fits (suc i)) g.1 in
-    (record { parts = ap (λ (k : ℕ). k ∷ bytes) (eqb-true b 67 g.0) ∙ ap (λ (l : List ℕ). 67 ∷ l) t.0.parts; fits = t.0.fits }, t.1)
+    (lettered 67 b bytes (fields_bytes x.0) x.1 g.0 t.0, t.1)
 
 config_again : (c : Config) (rest : List ℕ) → IsSpelled c → config_at (config_bytes c ++ rest) ≡ Some (c, rest)
 unfolding config_at
 config_again c rest fit = fields_again c rest fit
 
+-- each spelling and what follows it is read as its configuration
+config_reads : Reads config_bytes IsSpelled config_at
+config_reads = record { takes = config_takes; again = config_again }
+
 -- no spelling begins another
 pub one_config : (a b : Config) (x y : List ℕ) → IsConfig a → IsConfig b → config_bytes a ++ x ≡ config_bytes b ++ y → (a ≡ b) × (x ≡ y)
-one_config a b x y fa fb same =
-    let e = some_is (a, x) (b, y) (sym (config_again a x (sound_spelled a fa)) ∙ ap config_at same ∙ config_again b y (sound_spelled b fb)) in
-    (ap (λ (p : Config × List ℕ). p.0) e, ap (λ (p : Config × List ℕ). p.1) e)
-
-none_left : (rest : List ℕ) → length rest ≡ 0 → rest ≡ []
-none_left [] e = refl
-none_left (b ∷ rest) e = absurd (omega (arith, e))
+one_config a b x y fa fb same = one_front config_bytes IsSpelled config_at config_again a b x y (sound_spelled a fa) (sound_spelled b fb) same
 
 pub found : (bytes : List ℕ) (c : Config) (rest : List ℕ) → IsBytes bytes → config_at bytes ≡ Some (c, rest) → length rest ≡ 0 → bytes ≡ config_bytes c
-found bytes c rest fits read none =
-    let t = config_takes bytes (c, rest) fits read in
-    t.0.parts ∙ ap (λ (l : List ℕ). config_bytes c ++ l) (none_left rest none) ∙ append-nil (config_bytes c)
-
--- bytes that spell a configuration are read as it, and nothing is left
-whole : (bytes : List ℕ) (a : Config) → IsConfig a → bytes ≡ config_bytes a → config_at bytes ≡ Some (a, [])
-whole bytes a fit same = ap config_at (same ∙ sym (append-nil (config_bytes a))) ∙ config_again a [] (sound_spelled a fit)
+found = found_whole config_bytes IsSpelled config_at config_reads
 
 pub only : (bytes : List ℕ) (c : Config) (rest : List ℕ) → config_at bytes ≡ Some (c, rest) → (a : Config) → IsConfig a → bytes ≡ config_bytes a → (c ≡ a) × (rest ≡ [])
-only bytes c rest read a fit same =
-    let e = some_is (c, rest) (a, []) (sym read ∙ whole bytes a fit same) in
-    (ap (λ (p : Config × List ℕ). p.0) e, ap (λ (p : Config × List ℕ). p.1) e)
+only bytes c rest read a fit same = only_whole config_bytes IsSpelled config_at config_reads bytes c rest read a (sound_spelled a fit) same
 
-none_read : {Y : Type 0} (y : Y) (o : Option Y) → o ≡ None → o ≡ Some y → ⊥
-none_read y o none some = cc
-
--- bytes that aren't read spell nothing
 pub not_damaged : (fault : CodecFault) (bytes : List ℕ) → Fails fault (config_at bytes) → (a : Config) → IsConfig a → bytes ≡ config_bytes a → fault ≡ faults.NoMemory
-not_damaged faults.NoMemory bytes fails a fit same = refl
-not_damaged faults.Damaged bytes fails a fit same = absurd (none_read (a, []) (config_at bytes) fails (whole bytes a fit same))
+not_damaged fault bytes fails a fit same = not_damaged_whole config_bytes IsSpelled config_at config_reads fault bytes fails a (sound_spelled a fit) same

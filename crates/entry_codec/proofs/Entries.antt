@@ -1,8 +1,7 @@
 -- Whole entries, read exactly.
-use Rattle.std.proofs.Common.{◌≡◌, ℕ, zero, suc, ◌-◌, ◌^◌, ◌<◌, ◌≤◌, ◌==◌, Bool, true, false, cond, List, [], ◌∷◌, ◌++◌, length, take, drop, Option, Some, None, refl, sym, ◌∙◌, ap, subst, append_assoc, length-append, arith}
+use Rattle.std.proofs.Common.{◌≡◌, ⊎_elim, ℕ, zero, suc, ◌^◌, ◌<◌, ◌==◌, Bool, cond, List, [], ◌∷◌, ◌++◌, drop, Option, Some, None, sym, ◌∙◌, ap, subst, append_assoc, arith}
 use Rattle.std.specs.Prelude.{IsTrue}
 use Rattle.std.specs.Int.{w16, w32, w64, to_be_bytes}
-use Rattle.std.proofs.lemmas.List.{take_at}
 use Rattle.std.proofs.lemmas.Bool.Decides.{nat_tests}
 use Rattle.std.proofs.lemmas.Bool.{eqb-true}
 use Rattle.faim_base.specs.Numbers.{IsAmount, IsDay, IsMoment, IsSeq, IsType}
@@ -17,10 +16,9 @@ use Rattle.host_ledger.specs.declared.entries.Entry.{Entry}
 use Rattle.host_ledger.specs.declared.entries.Entry.TheVariants.{Posted, Roll}
 use Rattle.entry_codec.specs.Spelling.{imad_bytes, head_bytes, verdict_bytes, flag, body_bytes, entry_bytes}
 use Rattle.host_ledger.specs.Ranges.{IsCode, IsHead, IsVerdict, IsBody, IsEntry}
-use Rattle.entry_codec.specs.declared.fault.CodecFault.{CodecFault}
-use Rattle.entry_codec.specs.declared.fault.CodecFault.TheVariants as faults
-use Rattle.entry_codec.specs.Reading.{Fails, ◌>>=◌, number_at, byte_at, date_at, moment_at, seq_at, cents_at, endpoint_at, aba_at, code_at, kind_at, flag_at, imad_at, head_at, taken_at, refused_at, verdict_at, body_at, posted_at, roll_at, entry_at}
-use Rattle.entry_codec.proofs.Codecs.{IsBytes, Takes, then_takes, Reads, some_is, test_some, step, step_again, byte_reads, reads16}
+use Rattle.entry_codec.specs.Reading.{◌>>=◌, number_at, byte_at, date_at, moment_at, seq_at, cents_at, endpoint_at, aba_at, code_at, kind_at, flag_at, imad_at, head_at, taken_at, refused_at, verdict_at, body_at, posted_at, roll_at, entry_at}
+use Rattle.entry_codec.proofs.Codecs.{IsBytes, Takes, then_takes, Reads, some_is, test_some, chosen, either_some, step, step_again, byte_reads, reads16}
+use Rattle.entry_codec.proofs.Fronts.{one_front}
 use Rattle.entry_codec.proofs.Pieces.{date_reads, moment_reads, seq_reads, cents_reads, endpoint_reads, aba_reads, code_reads, kind_reads, flag_reads, imad_reads, body_reads}
 
 abbrev number : ℕ → List ℕ
@@ -203,7 +201,7 @@ verdict_again (Refused r) rest fit =
     step_again (to_be_bytes w16) (λ n. n < 2 ^ 16) (number_at w16) reads16 (refusing r.category) r.code rest (recorded_small r fit)
     ∙ ap (λ b. cond b (Some (Refused r, rest)) None) fit
 
-verdict_reads : Reads verdict_bytes IsVerdict verdict_at
+pub verdict_reads : Reads verdict_bytes IsVerdict verdict_at
 verdict_reads = record { takes = verdict_takes; again = verdict_again }
 
 abbrev p4 : Head → Bool → ℕ → Verdict × List ℕ → Option (Entry × List ℕ)
@@ -248,19 +246,12 @@ roll_takes bytes x fits e =
 entry_takes : (bytes : List ℕ) (x : Entry × List ℕ) → IsBytes bytes → entry_at bytes ≡ Some x → Takes bytes (entry_bytes x.0) x.1 × IsEntry x.0
 unfolding entry_at
 entry_takes [] x fits e = absurd cc
-entry_takes (b ∷ bytes) x fits e = by_kind (b == 80) (b == 82) refl refl e
-  where
-    by_kind : (p r : Bool) → (b == 80) ≡ p → (b == 82) ≡ r → cond (b == 80) (posted_at bytes) (cond (b == 82) (roll_at bytes) None) ≡ Some x → Takes (b ∷ bytes) (entry_bytes x.0) x.1 × IsEntry x.0
-    by_kind true r is other e =
-        subst (λ k. Takes (k ∷ bytes) (entry_bytes x.0) x.1 × IsEntry x.0) (sym (eqb-true b 80 is))
-        (posted_takes bytes x (λ i. fits (suc i)) (sym (ap (λ t. cond t (posted_at bytes) (cond (b == 82) (roll_at bytes) None)) is) ∙ e))
-    by_kind false true is other e =
-        subst (λ k. Takes (k ∷ bytes) (entry_bytes x.0) x.1 × IsEntry x.0) (sym (eqb-true b 82 other))
-        (roll_takes bytes x (λ i. fits (suc i)) (sym (ap (λ t. cond t (posted_at bytes) (cond (b == 82) (roll_at bytes) None)) is ∙ ap (λ t. cond t (roll_at bytes) None) other) ∙ e))
-    by_kind false false is other e = absurd (none_some x (sym (ap (λ t. cond t (posted_at bytes) (cond (b == 82) (roll_at bytes) None)) is ∙ ap (λ t. cond t (roll_at bytes) None) other) ∙ e))
-      where
-        none_some : {A : Type 0} (y : A) → None ≡ Some y → ⊥
-        none_some y same = cc
+entry_takes (b ∷ bytes) x fits e =
+    ⊎_elim (λ p. subst (λ k. Takes (k ∷ bytes) (entry_bytes x.0) x.1 × IsEntry x.0) (sym (eqb-true b 80 p.0)) (posted_takes bytes x (λ i. fits (suc i)) p.1))
+    (λ other.
+    let r = chosen (b == 82) (roll_at bytes) x other in
+    subst (λ k. Takes (k ∷ bytes) (entry_bytes x.0) x.1 × IsEntry x.0) (sym (eqb-true b 82 r.0)) (roll_takes bytes x (λ i. fits (suc i)) r.1))
+    (either_some (b == 80) (posted_at bytes) (cond (b == 82) (roll_at bytes) None) x e)
 
 posted_again : (h : Head) (b : List ℕ) (f : Bool) (m : ℕ) (v : Verdict) (rest : List ℕ) → IsHead h → IsMoment m → IsVerdict v → IsBody b → posted_at ((head_bytes h ++ (marked f ++ (number m ++ (verdict_bytes v ++ body_bytes b)))) ++ rest) ≡ Some (Posted h b f m v, rest)
 unfolding posted_at
@@ -283,7 +274,7 @@ roll_again m d rest hm hd =
     ∙ step_again number IsMoment moment_at moment_reads (λ (m : ℕ × List ℕ). date_at m.1 >>= λ d. Some (Roll m.0 d.0, d.1)) m (number d ++ rest) hm
     ∙ step_again number IsDay date_at date_reads (λ (d : ℕ × List ℕ). Some (Roll m d.0, d.1)) d rest hd
 
-entry_again : (e : Entry) (rest : List ℕ) → IsEntry e → entry_at (entry_bytes e ++ rest) ≡ Some (e, rest)
+pub entry_again : (e : Entry) (rest : List ℕ) → IsEntry e → entry_at (entry_bytes e ++ rest) ≡ Some (e, rest)
 unfolding entry_at
 entry_again (Posted h b f m v) rest fit = posted_again h b f m v rest fit.0 fit.1 fit.2 fit.3
 entry_again (Roll m d) rest fit = roll_again m d rest fit.0 fit.1
@@ -294,32 +285,4 @@ entry_reads = record { takes = entry_takes; again = entry_again }
 
 -- no spelling begins another
 pub one_entry : (a b : Entry) (x y : List ℕ) → IsEntry a → IsEntry b → entry_bytes a ++ x ≡ entry_bytes b ++ y → (a ≡ b) × (x ≡ y)
-one_entry a b x y fa fb same =
-    let e = some_is (a, x) (b, y) (sym (entry_again a x fa) ∙ ap entry_at same ∙ entry_again b y fb) in
-    (ap (λ (p : Entry × List ℕ). p.0) e, ap (λ (p : Entry × List ℕ). p.1) e)
-
--- what was read, and how many bytes it takes
-module _ (bytes : List ℕ) (e : Entry) (rest : List ℕ) (fits : IsBytes bytes) (read : entry_at bytes ≡ Some (e, rest)) where
-  abbrev taken : Takes bytes (entry_bytes e) rest × IsEntry e
-  taken = entry_takes bytes (e, rest) fits read
-
-  pub shorter : length rest ≤ length bytes
-  shorter = omega (arith, ap length taken.0.parts, length-append (entry_bytes e) rest)
-
-  pub found : (n : ℕ) → n ≡ length bytes - length rest → IsEntry e × (take n bytes ≡ entry_bytes e) × (n ≤ length bytes)
-  found n is =
-      let long : length (entry_bytes e) ≡ n = omega (arith, is, ap length taken.0.parts, length-append (entry_bytes e) rest) in
-      (taken.1, ap (λ (l : List ℕ). take n l) taken.0.parts ∙ take_at (entry_bytes e) rest n long, omega (arith, is))
-
-  pub only : (n : ℕ) → n ≡ length bytes - length rest → (a : Entry) (more : List ℕ) → IsEntry a → bytes ≡ entry_bytes a ++ more → (e ≡ a) × (n ≡ length (entry_bytes a))
-  only n is a more fit same =
-      let both = one_entry e a rest more taken.1 fit (sym taken.0.parts ∙ same) in
-      (both.0, omega (arith, is, ap length same, length-append (entry_bytes a) more, ap length both.1))
-
-none_read : (a : Entry) (more : List ℕ) (o : Option (Entry × List ℕ)) → o ≡ None → o ≡ Some (a, more) → ⊥
-none_read a more o none some = cc
-
--- no spelling stands at the front of bytes that aren't read
-pub not_damaged : (fault : CodecFault) (bytes : List ℕ) → Fails fault (entry_at bytes) → (a : Entry) (more : List ℕ) → IsEntry a → bytes ≡ entry_bytes a ++ more → fault ≡ faults.NoMemory
-not_damaged faults.NoMemory bytes fails a more fit same = refl
-not_damaged faults.Damaged bytes fails a more fit same = absurd (none_read a more (entry_at bytes) fails (ap entry_at same ∙ entry_again a more fit))
+one_entry = one_front entry_bytes IsEntry entry_at entry_again

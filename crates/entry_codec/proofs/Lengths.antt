@@ -22,7 +22,7 @@ imad_size i fit = simp length-append (omega (arith, fit.sender.0))
 head_size : (h : Head) → IsHead h → length (head_bytes h) ≡ 47
 head_size h fit = simp length-append (omega (arith, imad_size h.imad fit.imad, fit.sender.0, fit.receiver.0, fit.code.0))
 
-verdict_size_is : (v : Verdict) → IsVerdict v → length (verdict_bytes v) ≡ verdict_size v
+pub verdict_size_is : (v : Verdict) → IsVerdict v → length (verdict_bytes v) ≡ verdict_size v
 verdict_size_is (Taken dest seq) fit = simp length-append (omega (arith, fit.0.0))
 verdict_size_is (Refused r) fit = refl
 
@@ -30,12 +30,12 @@ pub entry_size_is : (e : Entry) → IsEntry e → length (entry_bytes e) ≡ ent
 entry_size_is (Posted head body resent moment verdict) fit = simp length-append (omega (arith, head_size head fit.0, verdict_size_is verdict fit.2))
 entry_size_is (Roll moment date) fit = refl
 
-verdict_small : (v : Verdict) → verdict_size v ≤ 13
-verdict_small (Taken dest seq) = omega arith
-verdict_small (Refused r) = omega arith
+pub verdict_sizes : (v : Verdict) → (4 ≤ verdict_size v) × (verdict_size v ≤ 13)
+verdict_sizes (Taken dest seq) = (omega arith, omega arith)
+verdict_sizes (Refused r) = (omega arith, omega arith)
 
 entry_bounds : (e : Entry) → IsEntry e → (shortest_entry ≤ entry_size e) × (entry_size e ≤ longest_entry)
-entry_bounds (Posted head body resent moment verdict) fit = (omega arith, omega (arith, verdict_small verdict, fit.3.1))
+entry_bounds (Posted head body resent moment verdict) fit = (omega arith, omega (arith, (verdict_sizes verdict).1, fit.3.1))
 entry_bounds (Roll moment date) fit = (omega arith, omega arith)
 
 pub entry_small : (e : Entry) → IsEntry e → (shortest_entry ≤ length (entry_bytes e)) × (length (entry_bytes e) ≤ longest_entry)

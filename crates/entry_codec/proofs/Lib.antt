@@ -1,7 +1,13 @@
 pub mod Accounts
 pub mod Appends
+pub mod BankEntries
+pub mod BankLengths
+pub mod BankOpenings
+pub mod BankParts
 pub mod Codecs
 pub mod Configs
 pub mod Entries
+pub mod Fronts
 pub mod Pieces
 pub mod Lengths
+pub mod Wholes

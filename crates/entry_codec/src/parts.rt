@@ -1,5 +1,5 @@
 // The parts of entries and configurations, each read from the front of some bytes.
-ghost use Rattle.std.specs.Prelude.{◌≡◌, Some, MatchResult};
+ghost use Rattle.std.specs.Prelude.{◌≡◌, Some, IfErr, MatchResult};
 ghost use Rattle.std.specs.Int.{w16, w32, w64};
 ghost use Rattle.entry_codec.specs.Reading.{Gives, Fails, piece_at, number_at, byte_at, date_at, moment_at, seq_at, cents_at, endpoint_at, aba_at, code_at, kind_at, flag_at};
 
@@ -7,7 +7,7 @@ use crate::CodecFault;
 use faim_base::{Aba, Cents, CycleDate, Endpoint, Moment, Seq, are_text};
 
 // Bytes that are read from their front on. Each call gives the value that stands there and leaves what is after it in
-// `rest`, or it fails.
+// `rest`, or it fails. Those of an opening's parts say that they want no memory.
 #[derive(Drop)]
 pub(crate) struct Front<'a> {
     pub(crate) rest: &'a [u8],
@@ -15,7 +15,8 @@ pub(crate) struct Front<'a> {
 
 impl<'a> Front<'a> {
     pub(crate) fn piece(&mut self, count: usize) -> Result<&'a [u8], CodecFault>
-        ensures { MatchResult result (λ piece. piece_at count self.old.rest.now ≡ Some (piece.now, self.new.rest.now)) (λ fault. Fails fault (piece_at count self.old.rest.now)) }
+        ensures gives { MatchResult result (λ piece. piece_at count self.old.rest.now ≡ Some (piece.now, self.new.rest.now)) (λ fault. Fails fault (piece_at count self.old.rest.now)) }
+        ensures only { IfErr result (λ fault. fault ≡ CodecFault.Damaged) }
     {
         if self.rest.len() < count {
             return Err(CodecFault::Damaged);
@@ -26,7 +27,8 @@ impl<'a> Front<'a> {
     }
 
     pub(crate) fn array<const N: usize>(&mut self) -> Result<[u8; N], CodecFault>
-        ensures { Gives result (piece_at N self.old.rest.now) self.new.rest.now }
+        ensures gives { Gives result (piece_at N self.old.rest.now) self.new.rest.now }
+        ensures only { IfErr result (λ fault. fault ≡ CodecFault.Damaged) }
     {
         let mut array = [0; N];
         array.copy_from_slice(self.piece(N)?);
@@ -34,7 +36,8 @@ impl<'a> Front<'a> {
     }
 
     pub(crate) fn byte(&mut self) -> Result<u8, CodecFault>
-        ensures { Gives result (byte_at self.old.rest.now) self.new.rest.now }
+        ensures gives { Gives result (byte_at self.old.rest.now) self.new.rest.now }
+        ensures only { IfErr result (λ fault. fault ≡ CodecFault.Damaged) }
     {
         match self.rest {
             [] => Err(CodecFault::Damaged),
@@ -52,7 +55,8 @@ impl<'a> Front<'a> {
     }
 
     pub(crate) fn u32(&mut self) -> Result<u32, CodecFault>
-        ensures { Gives result (number_at w32 self.old.rest.now) self.new.rest.now }
+        ensures gives { Gives result (number_at w32 self.old.rest.now) self.new.rest.now }
+        ensures only { IfErr result (λ fault. fault ≡ CodecFault.Damaged) }
     {
         Ok(u32::from_be_bytes(self.array()?))
     }
@@ -65,7 +69,8 @@ impl<'a> Front<'a> {
 
     #[tactic(auto, unfolding(crate::specs::Reading::date_at))]
     pub(crate) fn date(&mut self) -> Result<CycleDate, CodecFault>
-        ensures { Gives result (date_at self.old.rest.now) self.new.rest.now }
+        ensures gives { Gives result (date_at self.old.rest.now) self.new.rest.now }
+        ensures only { IfErr result (λ fault. fault ≡ CodecFault.Damaged) }
     {
         CycleDate::new(self.u32()?).ok_or(CodecFault::Damaged)
     }
@@ -93,7 +98,8 @@ impl<'a> Front<'a> {
 
     #[tactic(auto, unfolding(crate::specs::Reading::endpoint_at))]
     pub(crate) fn endpoint(&mut self) -> Result<Endpoint, CodecFault>
-        ensures { Gives result (endpoint_at self.old.rest.now) self.new.rest.now }
+        ensures gives { Gives result (endpoint_at self.old.rest.now) self.new.rest.now }
+        ensures only { IfErr result (λ fault. fault ≡ CodecFault.Damaged) }
     {
         Endpoint::read(&self.array()?).ok_or(CodecFault::Damaged)
     }

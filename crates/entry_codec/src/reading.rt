@@ -63,7 +63,7 @@ impl<'a> Front<'a> {
     }
 
     #[tactic(auto, unfolding(crate::specs::Reading::verdict_at))]
-    fn verdict(&mut self) -> Result<Verdict, CodecFault>
+    pub(crate) fn verdict(&mut self) -> Result<Verdict, CodecFault>
         ensures { Gives result (verdict_at self.old.rest.now) self.new.rest.now }
     {
         match self.byte()? {
@@ -74,7 +74,7 @@ impl<'a> Front<'a> {
     }
 
     #[tactic(auto, unfolding(crate::specs::Reading::body_at))]
-    fn body(&mut self, alloc: Global) -> Result<Bytes, CodecFault>
+    pub(crate) fn body(&mut self, alloc: Global) -> Result<Bytes, CodecFault>
         ensures { Gives result (body_at self.old.rest.now) self.new.rest.now }
     {
         let length = usize::from(self.u16()?);

@@ -1,9 +1,15 @@
 // How many bytes the spellings have (docs/FORMATS.md, "Entries" and "Bytes of configurations").
 ghost use Rattle.std.specs.Prelude.{◌≡◌, ◌≤◌, length};
+ghost use Rattle.bank_books.specs.declared.entries.BankEntry.{BankEntry as OfBank};
+ghost use Rattle.bank_books.specs.declared.entries.BankOpening.{BankOpening as Opening};
+ghost use Rattle.bank_books.specs.Openings.{IsBankOpening};
 ghost use Rattle.host_ledger.specs.declared.config.Config.{Config as Sound};
 ghost use Rattle.host_ledger.specs.declared.entries.Entry.{Entry as Value};
 ghost use Rattle.host_ledger.specs.Ranges.{IsEntry};
 ghost use Rattle.host_ledger.specs.Soundness.{IsConfig};
+ghost use Rattle.entry_codec.specs.BankRanges.{IsBankEntry};
+ghost use Rattle.entry_codec.specs.BankSizes.{bank_opening_size, bank_entry_size, shortest_bank_entry, longest_bank_entry};
+ghost use Rattle.entry_codec.specs.BankSpelling.{bank_opening_bytes, bank_entry_bytes};
 ghost use Rattle.entry_codec.specs.Config.{config_bytes};
 ghost use Rattle.entry_codec.specs.Sizes.{entry_size, shortest_entry, longest_entry, config_size, longest_config};
 ghost use Rattle.entry_codec.specs.Spelling.{entry_bytes};
@@ -19,4 +25,15 @@ pub fn entry_is_a_payload()
 pub fn config_is_a_payload()
     ensures size { (config : Sound) → IsConfig config → length (config_bytes config) ≡ config_size (length config.accounts) }
     ensures most { (config : Sound) → IsConfig config → length (config_bytes config) ≤ longest_config }
+{}
+
+/// The spelling of a bank's opening has 14 bytes. So it is a payload that a journal takes.
+pub fn bank_opening_is_a_payload()
+    ensures { (opening : Opening) → IsBankOpening opening → length (bank_opening_bytes opening) ≡ bank_opening_size }
+{}
+
+/// The spelling of a bank's entry has 12 to 4,250 bytes. So it isn't empty, and it is a payload that a journal takes.
+pub fn bank_entry_is_a_payload()
+    ensures size { (entry : OfBank) → IsBankEntry entry → length (bank_entry_bytes entry) ≡ bank_entry_size entry }
+    ensures bounds { (entry : OfBank) → IsBankEntry entry → (shortest_bank_entry ≤ length (bank_entry_bytes entry)) × (length (bank_entry_bytes entry) ≤ longest_bank_entry) }
 {}

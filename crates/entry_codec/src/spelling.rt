@@ -1,9 +1,9 @@
 // Entries as bytes (docs/FORMATS.md, "Entries").
 ghost use Rattle.std.specs.Prelude.{◌≡◌, ◌++◌, OnOk, OnErr, length, ◌≤◌};
-ghost use Rattle.entry_codec.specs.Spelling.{Keeps, entry_bytes, head_bytes, verdict_bytes, imad_bytes};
-ghost use Rattle.host_ledger.specs.Ranges.{IsEntry};
+ghost use Rattle.entry_codec.specs.Spelling.{Keeps, entry_bytes, head_bytes, verdict_bytes, imad_bytes, body_bytes};
+ghost use Rattle.host_ledger.specs.Ranges.{IsBody, IsEntry};
 
-use faim_base::{Head, Imad, NoMemory, Verdict};
+use faim_base::{Bytes, Head, Imad, NoMemory, Verdict};
 use host_ledger::Entry;
 
 /// Appends the spelling of an entry, or changes nothing. The entry is one that has a spelling: a refusal that is
@@ -42,8 +42,7 @@ fn put_entry(value: &Entry, out: &mut Vec<u8>) -> Result<(), NoMemory>
             out.push(u8::from(*resent))?;
             out.extend_from_slice(&moment.get().to_be_bytes())?;
             put_verdict(verdict, out)?;
-            out.extend_from_slice(&(body.as_slice().len() as u16).to_be_bytes())?;
-            out.extend_from_slice(body.as_slice())?;
+            put_body(body, out)?;
         }
         Entry::Roll { moment, date } => {
             out.push(b'R')?;
@@ -78,7 +77,7 @@ fn put_imad(imad: &Imad, out: &mut Vec<u8>) -> Result<(), NoMemory>
     Ok(())
 }
 
-fn put_verdict(verdict: &Verdict, out: &mut Vec<u8>) -> Result<(), NoMemory>
+pub(crate) fn put_verdict(verdict: &Verdict, out: &mut Vec<u8>) -> Result<(), NoMemory>
     ensures ok { OnOk result (out.new.items ≡ out.old.items ++ verdict_bytes verdict.now) }
     ensures err { OnErr result (Keeps out.old.items out.new.items) }
 {
@@ -94,5 +93,17 @@ fn put_verdict(verdict: &Verdict, out: &mut Vec<u8>) -> Result<(), NoMemory>
             out.extend_from_slice(&reject.code.to_be_bytes())?;
         }
     }
+    Ok(())
+}
+
+// Appends the length of a text, which has 1 to 4,234 bytes, and the text.
+pub(crate) fn put_body(body: &Bytes, out: &mut Vec<u8>) -> Result<(), NoMemory>
+    requires { IsBody body.now }
+    ensures ok { OnOk result (out.new.items ≡ out.old.items ++ body_bytes body.now) }
+    ensures err { OnErr result (Keeps out.old.items out.new.items) }
+{
+    let body = body.as_slice();
+    out.extend_from_slice(&(body.len() as u16).to_be_bytes())?;
+    out.extend_from_slice(body)?;
     Ok(())
 }

@@ -1,19 +1,9 @@
-use Rattle.std.proofs.Common.{◌≡◌, ◌↔◌, ℕ, ◌==◌, Bool, true, false, List, [], length, sym, ap, subst, arith}
-use Rattle.std.specs.Prelude.{IsTrue}
-use Rattle.host_ledger.specs.declared.config.Config.{Config}
+use Rattle.std.proofs.Common.{◌≡◌, arith}
 use Rattle.host_ledger.specs.Soundness.{IsConfig}
 use Rattle.entry_codec.specs.declared.fault.CodecFault.TheVariants as faults
 use Rattle.entry_codec.proofs.Configs.{found, only, not_damaged}
+use Rattle.entry_codec.proofs.Wholes.{none_left_over, not_unsound}
 use Rattle.entry_codec.proofs.config_reading.read_config.Goals as goal
-
-none_left_over : (rest : List ℕ) → rest ≡ [] → false ≡ (length rest == 0) → ⊥
-none_left_over rest none some =
-    let empty : (length rest == 0) ≡ true = ap (λ (l : List ℕ). length l == 0) none in
-    cc
-
--- what a sound configuration's spelling is read as is sound
-not_unsound : (test : Bool) (read config : Config) → read ≡ config → IsConfig config → IsTrue test ↔ IsConfig read → test ≡ false → ⊥
-not_unsound test read config same sound both unsound = let yes : test ≡ true = both.1 (subst IsConfig (sym same) sound) in cc
 
 pub returns-in-Err-clause-only : goal.returns-in-Err-clause-only
 returns-in-Err-clause-only c = not_damaged c.in-Err.fault c.args.bytes.now c.in-Err.ensures
@@ -30,10 +20,10 @@ pub returns-then-not-is_empty-clause-damaged : goal.returns-then-not-is_empty-cl
 returns-then-not-is_empty-clause-damaged c is config fit same = none_left_over c.config.new.self.rest.now (only c.args.bytes.now c.in-Ok.config c.config.new.self.rest.now c.in-Ok.ensures config fit same).1 c.if-not-is_empty.ensures
 
 pub returns-then-not-sound-clause-only : goal.returns-then-not-sound-clause-only
-returns-then-not-sound-clause-only c config fit same = absurd (not_unsound c.is_sound-sound.result c.in-Ok.config config (only c.args.bytes.now c.in-Ok.config c.config.new.self.rest.now c.in-Ok.ensures config fit same).0 fit c.is_sound-sound.ensures c.if-not-sound.true)
+returns-then-not-sound-clause-only c config fit same = absurd (not_unsound IsConfig c.is_sound-sound.result c.in-Ok.config config (only c.args.bytes.now c.in-Ok.config c.config.new.self.rest.now c.in-Ok.ensures config fit same).0 fit c.is_sound-sound.ensures c.if-not-sound.true)
 
 pub returns-then-not-sound-clause-damaged : goal.returns-then-not-sound-clause-damaged
-returns-then-not-sound-clause-damaged c is config fit same = not_unsound c.is_sound-sound.result c.in-Ok.config config (only c.args.bytes.now c.in-Ok.config c.config.new.self.rest.now c.in-Ok.ensures config fit same).0 fit c.is_sound-sound.ensures c.if-not-sound.true
+returns-then-not-sound-clause-damaged c is config fit same = not_unsound IsConfig c.is_sound-sound.result c.in-Ok.config config (only c.args.bytes.now c.in-Ok.config c.config.new.self.rest.now c.in-Ok.ensures config fit same).0 fit c.is_sound-sound.ensures c.if-not-sound.true
 
 pub returns-clause-found : goal.returns-clause-found
 returns-clause-found c = (
