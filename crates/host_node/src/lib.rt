@@ -10,6 +10,8 @@ mod preparing;
 mod resending;
 mod securing;
 mod submitting;
+#[cfg(test)]
+mod tests;
 
 pub use faults::HostFault;
 pub use host_list::HostList;

@@ -4,3 +4,4 @@ pub mod Ends
 pub mod Ending
 pub mod Serving
 pub mod Going
+pub mod Promises

@@ -2,7 +2,14 @@
 #![tactic(auto)]
 
 mod ends;
+mod laws;
 mod serving;
+#[cfg(test)]
+mod tests;
 
+pub use laws::{
+    all_that_is_out_is_covered, each_moment_is_safe, nothing_is_missed, sessions_are_the_models,
+    sessions_follow_one_another,
+};
 pub use line_sessions::SessionEnd;
 pub use serving::serve;

@@ -1,5 +1,5 @@
 // Reads what is submitted.
-ghost use Rattle.std.specs.Prelude.{◌≡◌, IfOk, Some, slice_set};
+ghost use Rattle.std.specs.Prelude.{◌≡◌, ◌≢◌, IfErr, IfOk, None, Some, slice_set};
 ghost use Rattle.host_ledger.specs.Soundness.{IsEnv};
 ghost use Rattle.faim_message.specs.Decoded.{decoded};
 ghost use Rattle.faim_message.specs.Heads.{head_of};
@@ -8,7 +8,8 @@ ghost use Rattle.host_turns.specs.Reading.{submission_of};
 
 use faim_base::{Bytes, Head, NoMemory, Refused, Reject};
 use faim_edits::first_failed;
-use faim_message::{Form, Message, decode, submissions_show_their_bodies};
+use faim_message::{Form, Message, submissions_show_their_bodies};
+use faim_stream::Decoder;
 use std::alloc::Global;
 
 /// A message with a valid identifier.
@@ -32,18 +33,33 @@ pub enum ReadText {
     Numbered(Numbered),
 }
 
-/// What a text of any bytes is to a host whose configuration has this `T` or `P`. It is decoded once.
+/// What a text of any bytes is to a host whose configuration has this `T` or `P`. It is decoded once, by a decoder that is fed once.
 pub fn read_text(alloc: Global, env: u8, text: &[u8]) -> Result<ReadText, NoMemory>
     requires { IsEnv env }
     ensures { IfOk result (λ r. submission_of r ≡ submission env text.now) }
 {
-    match decode(alloc, text, Form::Input) {
+    match decoded(alloc, text) {
         Ok(message) => read_message(alloc, env, text, &message),
         Err(Refused::Byte(_)) => Ok(ReadText::Strange),
         Err(Refused::Cut) => Ok(ReadText::Strange),
         Err(Refused::Missing(_)) => Ok(ReadText::Strange),
         Err(Refused::NoMemory) => Err(NoMemory),
     }
+}
+
+// The Input message that the text spells.
+fn decoded(alloc: Global, text: &[u8]) -> Result<Message, Refused>
+    ensures form { IfOk result (λ m. m.form ≡ Form.Input) }
+    ensures read { IfOk result (λ m. decoded Form.Input text.now ≡ Some m) }
+    ensures none_read { IfErr result (λ e. e ≢ Refused.NoMemory → decoded Form.Input text.now ≡ None) }
+{
+    let mut decoder = match Decoder::new(alloc, Form::Input) {
+        Ok(decoder) => decoder,
+        Err(_) => return Err(Refused::NoMemory),
+    };
+    // A refusal is answered again at the end.
+    let _ = decoder.feed(text);
+    decoder.finish()
 }
 
 fn read_message(
