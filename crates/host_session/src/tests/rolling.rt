@@ -27,6 +27,19 @@ fn the_end_of_a_cycle_is_sent_to_each_endpoint(rt: HostRuntime) -> Result<(), Fa
 }
 
 #[test]
+fn a_cycle_without_outputs_ends_with_number_one(rt: HostRuntime) -> Result<(), Fail> {
+    let alloc = rt.alloc();
+    let mut site = made(alloc, 0)?;
+    assert_eq!(rt; served(alloc, &mut site, &[ROLL])?, Ok(()));
+    let ends: [&[u8]; 2] = [
+        b"\0\0\0\x62\x04BANKA001{1100}30T E{1110}01020930FAIM{1120}20240102BANKA00100000101020930FAIM{9000}NEXT 20240103*",
+        b"\0\0\0\x62\x04BANKB001{1100}30T E{1110}01020930FAIM{1120}20240102BANKB00100000101020930FAIM{9000}NEXT 20240103*",
+    ];
+    assert!(rt; has_sent(&site, 0, &ends) && has_size(&mut site, 114));
+    Ok(())
+}
+
+#[test]
 fn the_end_of_a_cycle_is_sent_again_by_a_session(rt: HostRuntime) -> Result<(), Fail> {
     let alloc = rt.alloc();
     let mut site = made(alloc, 0)?;
