@@ -1,0 +1,5 @@
+pub mod DraftFaults
+pub mod Drafting
+pub mod AckTexts
+pub mod OutputTexts
+pub mod BankSteps
