@@ -19,6 +19,7 @@ const ROOM: usize = 8_192;
 #[derive(Drop)]
 pub struct Decoder {
     alloc: Global,
+    form: Form,
     part: MessagePart,
     room: Vec<u8>,
     stop: Option<usize>,
@@ -33,7 +34,7 @@ impl Model for Decoder {
 
     ghost view = { λ d. record { form = form_of d.part; bytes = d.room.items; stop = d.stop } };
 
-    ghost invariant = { λ d. (8192 ≤ vec_capacity d.room) × (d.stop ≡ None → HasRead d.part (form_of d.part) d.room.items) };
+    ghost invariant = { λ d. (8192 ≤ vec_capacity d.room) × (d.stop ≡ None → HasRead d.part (form_of d.part) d.room.items) × (d.form ≡ form_of d.part) };
 }
 
 impl Decoder {
@@ -44,6 +45,7 @@ impl Decoder {
     {
         Ok(Decoder {
             alloc,
+            form,
             part: MessagePart::new(form),
             room: Vec::with_capacity(alloc, ROOM)?,
             stop: None,
@@ -104,10 +106,53 @@ impl Decoder {
         ensures read { (fed : List ℕ) → IsFed self fed → IfOk result (λ m. decoded self.form fed ≡ Some m) }
         ensures none_read { (fed : List ℕ) → IsFed self fed → IfErr result (λ e. e ≢ Refused.NoMemory → decoded self.form fed ≡ None) }
     {
+        self.answer()
+    }
+
+    // As `finish`, of a decoder that stays as it is.
+    fn answer(&self) -> Result<Message, Refused>
+        ensures found { (fed : List ℕ) → IsFed self.now fed → IfOk result (λ m. Spells m fed × (m.form ≡ self.now.form)) }
+        ensures refused { (fed : List ℕ) → IsFed self.now fed → IfErr result (λ e. Refuses self.now.form fed e) }
+        ensures read { (fed : List ℕ) → IsFed self.now fed → IfOk result (λ m. decoded self.now.form fed ≡ Some m) }
+        ensures none_read { (fed : List ℕ) → IsFed self.now fed → IfErr result (λ e. e ≢ Refused.NoMemory → decoded self.now.form fed ≡ None) }
+    {
         match self.stop {
             Some(place) => Err(Refused::Byte(place)),
             None => self.part.message(self.alloc, self.room.as_slice()),
         }
+    }
+
+    /// The answer of `decode` on these bytes, which are read in the room of this decoder. Nothing was fed to it before, and
+    /// nothing is fed to it afterwards: one decoder reads many messages, one after another. It takes memory for the message
+    /// alone (docs/FORMATS.md, "Messages").
+    pub fn decode(&mut self, bytes: &[u8]) -> Result<Message, Refused>
+        requires { IsFed self.old [] }
+        ensures form { self.new.form ≡ self.old.form }
+        ensures nothing { IsFed self.new [] }
+        ensures found { IfOk result (λ m. Spells m bytes.now × (m.form ≡ self.old.form)) }
+        ensures refused { IfErr result (λ e. Refuses self.old.form bytes.now e) }
+        ensures read { IfOk result (λ m. decoded self.old.form bytes.now ≡ Some m) }
+        ensures none_read { IfErr result (λ e. e ≢ Refused.NoMemory → decoded self.old.form bytes.now ≡ None) }
+    {
+        // A refusal is answered again at the end.
+        let _ = self.feed(bytes);
+        self.finish_and_restart()
+    }
+
+    // As `finish`, and then nothing is fed: the room is kept for the next message.
+    fn finish_and_restart(&mut self) -> Result<Message, Refused>
+        ensures form { self.new.form ≡ self.old.form }
+        ensures nothing { IsFed self.new [] }
+        ensures found { (fed : List ℕ) → IsFed self.old fed → IfOk result (λ m. Spells m fed × (m.form ≡ self.old.form)) }
+        ensures refused { (fed : List ℕ) → IsFed self.old fed → IfErr result (λ e. Refuses self.old.form fed e) }
+        ensures read { (fed : List ℕ) → IsFed self.old fed → IfOk result (λ m. decoded self.old.form fed ≡ Some m) }
+        ensures none_read { (fed : List ℕ) → IsFed self.old fed → IfErr result (λ e. e ≢ Refused.NoMemory → decoded self.old.form fed ≡ None) }
+    {
+        let answer = self.answer();
+        self.part = MessagePart::new(self.form);
+        self.room.clear();
+        self.stop = None;
+        answer
     }
 }
 

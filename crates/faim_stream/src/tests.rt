@@ -1,4 +1,7 @@
 // What no clause says of a decoder: its answers to literal bytes, however they are cut.
+ghost use Rattle.std.specs.Prelude.{[]};
+ghost use Rattle.faim_stream.specs.Fed.{IsFed};
+
 use crate::Decoder;
 use faim_base::{Refused, TagNo, after, before};
 use faim_message::{Form, Message, encode};
@@ -138,4 +141,48 @@ fn an_end_is_judged_as_that_of_all_bytes(rt: HostRuntime) -> Result<(), Fail> {
         Some(Refused::Missing(missed))
     );
     Ok(())
+}
+
+#[test]
+fn one_decoder_reads_many_messages(rt: HostRuntime) -> Result<(), Fail> {
+    let alloc = rt.alloc();
+    let mut decoder = Decoder::new(alloc, Form::Input)?;
+    assert!(rt; reads_between_refusals(alloc, &mut decoder, JOINED)?);
+    assert!(rt; reads_between_refusals(alloc, &mut decoder, WITH_FEEDS)?);
+    assert!(rt; reads_between_refusals(alloc, &mut decoder, WITH_RETURNS)?);
+    assert!(rt; reads_between_refusals(alloc, &mut decoder, JOINED)?);
+    Ok(())
+}
+
+// The bytes are read in the room of a decoder to which nothing was fed, and it is as it was: after refusals of each kind too.
+fn reads_between_refusals(alloc: Global, decoder: &mut Decoder, bytes: &[u8]) -> Result<bool, Fail>
+    requires { IsFed decoder.old [] }
+    ensures { IsFed decoder.new [] }
+{
+    let barred = decoder.decode(b"{1500}30USERREQ1T x");
+    let cut = decoder.decode(b"{15");
+    let missing = decoder.decode(b"{1500}30USERREQ1T {2000}000000150000");
+    let read = decoder.decode(bytes);
+    let mut out = Vec::new(alloc);
+    match read {
+        Ok(message) => encode(&message, &mut out)?,
+        Err(_) => return Ok(false),
+    }
+    Ok(
+        is_refused(&barred, Refused::Byte(18))
+            && is_refused(&cut, Refused::Cut)
+            && is_missing(&missing)
+            && out.as_slice() == bytes,
+    )
+}
+
+fn is_refused(answer: &Result<Message, Refused>, refused: Refused) -> bool {
+    match answer {
+        Ok(_) => false,
+        Err(found) => *found == refused,
+    }
+}
+
+fn is_missing(answer: &Result<Message, Refused>) -> bool {
+    matches!(answer, Err(Refused::Missing(_)))
 }

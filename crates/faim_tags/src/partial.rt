@@ -1,5 +1,5 @@
 // One tag byte by byte, without memory of its bytes.
-ghost use Rattle.std.specs.Prelude.{◌≡◌, ◌+◌, ◌<◌, ◌≤◌, ◌++◌, ◌∷◌, [], ℕ, List, Some, None, length, take, true, false, IfSome, MatchOption};
+ghost use Rattle.std.specs.Prelude.{◌≡◌, slice_index, IsSome, ◌↔◌, ◌+◌, ◌<◌, ◌≤◌, ◌++◌, ◌∷◌, [], ℕ, List, Some, None, length, take, true, false, IfSome, MatchOption};
 ghost use Rattle.std.specs.List.{list_all};
 ghost use Rattle.faim_base.specs.Tags.{is_tag_number};
 ghost use Rattle.faim_tags.specs.Layouts.{classes, maxima};
@@ -370,6 +370,7 @@ pub fn go_on_alike(like: TagNo, count: &mut usize, b: u8) -> bool
     ensures on { result ≡ true → (numbers : List ℕ) (p : Progress) → StandsFor numbers (TagPart.Number like count.old) p
         → BothStand numbers (Some (TagPart.Number like count.new)) (step numbers p b) }
     ensures same { result ≡ false → count.new ≡ count.old }
+    ensures when { (result ≡ true) ↔ ((0 < count.old) × (count.old < 5) × (slice_index (braced like) count.old ≡ b)) }
 {
     if *count == 0 || 5 <= *count || byte_of(like.get(), *count) != b {
         return false;
@@ -379,10 +380,12 @@ pub fn go_on_alike(like: TagNo, count: &mut usize, b: u8) -> bool
 }
 
 /// As `step`, of the part `Number` with these, where the byte is the closing brace of the number `like`: the other
-/// numbers aren't looked at then. None tells nothing (docs/FORMATS.md, "Tags").
+/// numbers aren't looked at then. None where it isn't that brace, which another number may go on with (docs/FORMATS.md,
+/// "Tags").
 #[inline(always)]
 pub fn close_alike(like: TagNo, count: usize, b: u8) -> Option<TagPart>
-    ensures { IfSome result (λ t. (numbers : List ℕ) (p : Progress) → StandsFor numbers (TagPart.Number like count) p
+    ensures when { IsSome result ↔ ((count ≡ 5) × (slice_index (braced like) 5 ≡ b)) }
+    ensures step { IfSome result (λ t. (numbers : List ℕ) (p : Progress) → StandsFor numbers (TagPart.Number like count) p
         → BothStand numbers (Some t) (step numbers p b)) }
 {
     if count == 5 && byte_of(like.get(), count) == b {

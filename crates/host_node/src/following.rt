@@ -4,13 +4,13 @@ ghost use Rattle.faim_model.specs.Lawful.{Follows, PostFollows, RollFollows, las
 ghost use Rattle.faim_model.specs.declared.decisions.Decision.TheVariants.{New};
 ghost use Rattle.host_node.specs.Following.{HasVerdict, Keeps, WasVerdict};
 
+use crate::host_list::HostReader;
 use faim_base::{CycleDate, Head, Moment, NoMemory, Verdict};
 use faim_message::{decoded_is_spelled, submissions_show_their_bodies};
 use faim_model::Decision;
 use host_core::{HostState, RollCase};
 use host_ledger::Entry;
-use host_turns::{Numbered, ReadText, decision_on, read_text, with_mark};
-use std::alloc::Global;
+use host_turns::{Numbered, ReadText, decision_on, with_mark};
 
 // The marks of a first submission: `P`, or a blank, or any other byte, of which one stands for all.
 const RESENT: u8 = b'P';
@@ -20,7 +20,11 @@ const BLANK: u8 = b' ';
 const OTHER: u8 = b'X';
 
 // Whether the entry may come after the host's entries.
-pub(crate) fn may_follow(alloc: Global, state: &HostState, entry: &Entry) -> Result<bool, NoMemory>
+pub(crate) fn may_follow(
+    reader: &mut HostReader,
+    state: &HostState,
+    entry: &Entry,
+) -> Result<bool, NoMemory>
     ensures { IfOk result (λ b. IsTrue b ↔ Follows state.now.config state.now.entries entry.now) }
 {
     match entry {
@@ -31,7 +35,7 @@ pub(crate) fn may_follow(alloc: Global, state: &HostState, entry: &Entry) -> Res
             moment,
             verdict,
         } => post_may_follow(
-            alloc,
+            reader,
             state,
             head,
             body.as_slice(),
@@ -67,7 +71,7 @@ fn is_in_time(state: &HostState, moment: Moment) -> bool
 
 // Whether a posted message may come next.
 fn post_may_follow(
-    alloc: Global,
+    reader: &mut HostReader,
     state: &HostState,
     head: &Head,
     body: &[u8],
@@ -80,8 +84,8 @@ fn post_may_follow(
     if !is_in_time(state, moment) {
         return Ok(false);
     }
-    match keeps_message(alloc, state, head, body) {
-        Ok(true) => was_verdict(alloc, state, head, body, resent, moment, verdict),
+    match keeps_message(reader, state, head, body) {
+        Ok(true) => was_verdict(reader, state, head, body, resent, moment, verdict),
         Ok(false) => Ok(false),
         Err(fault) => Err(fault),
     }
@@ -89,7 +93,7 @@ fn post_may_follow(
 
 // Whether the body is a message with this head and a blank mark.
 fn keeps_message(
-    alloc: Global,
+    reader: &mut HostReader,
     state: &HostState,
     head: &Head,
     body: &[u8],
@@ -99,7 +103,7 @@ fn keeps_message(
     decoded_is_spelled();
     submissions_show_their_bodies();
     let config = state.config();
-    match read_text(alloc, config.env, body) {
+    match reader.texts.read(config.env, body) {
         Ok(ReadText::Numbered(message)) => Ok(has_head(&message, head)),
         Ok(ReadText::Unnumbered) => Ok(false),
         Ok(ReadText::Strange) => Ok(false),
@@ -116,7 +120,7 @@ fn has_head(message: &Numbered, head: &Head) -> bool
 
 // Whether this is the verdict on the body with a mark that its first submission may have had.
 fn was_verdict(
-    alloc: Global,
+    reader: &mut HostReader,
     state: &HostState,
     head: &Head,
     body: &[u8],
@@ -127,18 +131,18 @@ fn was_verdict(
     ensures { IfOk result (λ b. IsTrue b ↔ WasVerdict state.now.config state.now.entries head.now body.now resent moment wanted.now) }
 {
     if resent {
-        return has_verdict(alloc, state, head, body, RESENT, moment, wanted);
+        return has_verdict(reader, state, head, body, RESENT, moment, wanted);
     }
-    match has_verdict(alloc, state, head, body, BLANK, moment, wanted) {
+    match has_verdict(reader, state, head, body, BLANK, moment, wanted) {
         Ok(true) => Ok(true),
-        Ok(false) => has_verdict(alloc, state, head, body, OTHER, moment, wanted),
+        Ok(false) => has_verdict(reader, state, head, body, OTHER, moment, wanted),
         Err(fault) => Err(fault),
     }
 }
 
 // Whether this is the verdict on the body with this mark, from the line of its identifier's source.
 fn has_verdict(
-    alloc: Global,
+    reader: &mut HostReader,
     state: &HostState,
     head: &Head,
     body: &[u8],
@@ -148,9 +152,9 @@ fn has_verdict(
 ) -> Result<bool, NoMemory>
     ensures { IfOk result (λ b. IsTrue b ↔ HasVerdict state.now.config state.now.entries head.now body.now mark moment wanted.now) }
 {
-    let text = with_mark(alloc, body, mark)?;
+    let text = with_mark(reader.alloc, body, mark)?;
     let config = state.config();
-    match read_text(alloc, config.env, text.as_slice()) {
+    match reader.texts.read(config.env, text.as_slice()) {
         Ok(ReadText::Numbered(message)) => {
             let decision = decision_on(state, head.imad.source, moment, &message);
             Ok(is_new(decision, wanted))

@@ -10,6 +10,7 @@ use crate::resending::send_newest;
 use entry_codec::{CodecFault, read_config, read_entry};
 use faim_base::NoMemory;
 use host_core::HostState;
+use host_turns::TextReader;
 use journaled_list::Journaled;
 use std::alloc::Global;
 use store_forward::Outbox;
@@ -22,8 +23,24 @@ pub struct HostList {
     pub(crate) state: HostState,
 }
 
+/// What reads a host's journal: it is made before the disk is asked, with the room for the texts of entries.
+#[derive(Drop)]
+pub struct HostReader {
+    pub(crate) alloc: Global,
+    pub(crate) texts: TextReader,
+}
+
+impl HostReader {
+    pub(crate) fn new(alloc: Global) -> Result<HostReader, NoMemory> {
+        Ok(HostReader {
+            alloc,
+            texts: TextReader::new(alloc)?,
+        })
+    }
+}
+
 impl Journaled for HostList {
-    type Reader = Global;
+    type Reader = HostReader;
 
     ghost Opening = { Config };
 
@@ -35,8 +52,8 @@ impl Journaled for HostList {
 
     ghost again = { sent_again };
 
-    fn open(reader: &mut Global, opening: &[u8]) -> Result<HostList, VisitFault> {
-        let alloc = *reader;
+    fn open(reader: &mut HostReader, opening: &[u8]) -> Result<HostList, VisitFault> {
+        let alloc = reader.alloc;
         match read_config(alloc, opening) {
             Ok(config) => match HostState::new(alloc, config) {
                 Ok(state) => Ok(HostList { alloc, state }),
@@ -47,10 +64,9 @@ impl Journaled for HostList {
         }
     }
 
-    fn add(&mut self, reader: &mut Global, bytes: &[u8]) -> Result<usize, VisitFault> {
-        let alloc = *reader;
-        match read_entry(alloc, bytes) {
-            Ok((entry, size)) => match may_follow(alloc, &self.state, &entry) {
+    fn add(&mut self, reader: &mut HostReader, bytes: &[u8]) -> Result<usize, VisitFault> {
+        match read_entry(reader.alloc, bytes) {
+            Ok((entry, size)) => match may_follow(reader, &self.state, &entry) {
                 Ok(true) => match self.state.push(entry) {
                     Ok(()) => Ok(size),
                     Err(_) => Err(VisitFault::NoMemory),

@@ -9,11 +9,12 @@ ghost use Rattle.entry_codec.specs.Config.{config_bytes};
 ghost use Rattle.journaled_list.specs.Faults.{OpenReason, OpenDiskCount, OpenLineCount};
 ghost use Rattle.journaled_list.specs.Loading.{SaysOfImage, AnswersImage};
 ghost use Rattle.journaled_list.specs.Making.{Inits};
-ghost use Rattle.journaled_list.specs.Resuming.{ResumeCalls, ResumesAll};
+ghost use Rattle.journaled_list.specs.Resuming.{OpenCalls, ResumesAll};
 ghost use Rattle.host_node.specs.HostList.{host_rules, sent_again};
 ghost use Rattle.host_node.specs.Node.{found_of};
 
 use crate::HostList;
+use crate::host_list::HostReader;
 use entry_codec::{config_is_a_payload, spell_config};
 use host_core::HostState;
 use host_ledger::Config;
@@ -83,22 +84,27 @@ impl HostNode {
     }
 
     /// Reads the host's journal, and then sends the acknowledgements and outputs of its last record again, marked `P`, in
-    /// the order of their first sending; nothing after the opening. It asks the disk at most twice for each record and five
-    /// times more. What each fault leaves stands at `OpenFault`.
+    /// the order of their first sending; nothing after the opening. The room in which it reads texts is made before it asks
+    /// the disk, which it does at most twice for each record and five times more. What each fault leaves stands at
+    /// `OpenFault`.
     pub fn resume<S: Site>(alloc: Global, site: &mut S) -> Result<HostNode, OpenFault>
         ensures says { SaysOfImage host_rules found_of (S.told site.old) result }
         ensures image { IfSome (S.told site.old) (λ told. AnswersImage host_rules found_of (reads told.log) result) }
-        ensures calls { Goes (S.told site.old) (S.told site.new) (ResumeCalls host_rules found_of sent_again result) }
+        ensures calls { Goes (S.told site.old) (S.told site.new) (OpenCalls host_rules found_of sent_again result) }
         ensures moments { Goes (S.told site.old) (S.told site.new) (ResumesAll host_rules found_of sent_again result) }
         ensures live { IfOk result (λ h. h.live ≡ true) }
         ensures reason { Goes (S.told site.old) (S.told site.new) (OpenReason result) }
         ensures disk { OpenDiskCount result (S.disk_faults site.old) (S.disk_faults site.new) }
         ensures line { OpenLineCount result (S.line_faults site.old) (S.line_faults site.new) }
     {
+        let reader = match HostReader::new(alloc) {
+            Ok(reader) => reader,
+            Err(_) => return Err(OpenFault::NoMemory),
+        };
         let mut outbox = Outbox::new(alloc);
         let resumed: Result<Kept<HostList>, OpenFault> = journaled_list::resume(
             alloc,
-            alloc,
+            reader,
             site,
             &mut outbox,
         );

@@ -25,7 +25,7 @@ use faim_model::{Decision, HostOutcome, turn_follows};
 use host_core::HostState;
 use host_ledger::Entry;
 use host_turns::{
-    Numbered, ReadText, decision_on, posted, read_text, recorded, told_again, turned_payload,
+    Numbered, ReadText, TextReader, decision_on, posted, recorded, told_again, turned_payload,
 };
 use link_frames::{Frame, FrameKind};
 use std::alloc::Global;
@@ -73,7 +73,8 @@ pub(crate) fn submit(
 {
     turn_follows();
     let config = state.config();
-    let submission = read_text(alloc, config.env, text)?;
+    let mut reader = TextReader::new(alloc)?;
+    let submission = reader.read(config.env, text)?;
     let moment = state.effective(reading);
     match submission {
         ReadText::Strange => turn_away(alloc, state, line, moment, NO_MESSAGE, None, outbox),

@@ -1,5 +1,5 @@
 -- A session that begins, or whose host isn't resumed.
-use Rattle.std.proofs.Common.{◌≡◌, ◌≢◌, ◌⊎◌, inl, inr, ℕ, ◌≤◌, Bool, true, false, List, [], ◌∷◌, ◌++◌, length, take, map, refl, sym, ◌∙◌, ap, subst, Option, Some, None, Result, Ok, Err, append-nil, append_assoc, arith}
+use Rattle.std.proofs.Common.{◌≡◌, ◌≢◌, ◌⊎◌, inl, inr, ⊎_elim, ℕ, ◌≤◌, Bool, true, false, List, [], ◌∷◌, ◌++◌, length, take, map, refl, sym, ◌∙◌, ap, subst, Option, Some, None, Result, Ok, Err, append-nil, append_assoc, arith}
 use Rattle.std.specs.Prelude.{IfSome}
 use Rattle.std.specs.Io.KnownBytes.{Consumes}
 use Rattle.std.proofs.KnownBytes.{Consumes-nil}
@@ -16,7 +16,7 @@ use Rattle.journaled_list.specs.declared.faults.OpenFault.TheVariants as opens
 use Rattle.journaled_list.specs.Loading.{GivesList, Refuses}
 use Rattle.journaled_list.specs.Loading.{AnswersImage as AnswersList}
 use Rattle.journaled_list.specs.Payloads.{IsListDamage, Stands}
-use Rattle.journaled_list.specs.Resuming.{IsResumeMoment, ReadsAndSends, ResumeCalls, Resumes, ResumesAll}
+use Rattle.journaled_list.specs.Resuming.{IsResumeMoment, ReadsAndSends, OpenCalls, Resumes, ResumesAll}
 use Rattle.journaled_list.specs.Rules.{Listed}
 use Rattle.host_ledger.specs.declared.config.Config.{Config}
 use Rattle.host_ledger.specs.declared.entries.Entry.{Entry}
@@ -33,7 +33,7 @@ use Rattle.host_session.specs.HostPart.Event.{Resumed}
 use Rattle.host_session.specs.Serving.{Serves, ServesAll, Session}
 use Rattle.host_session.specs.Views.{View, HasCome}
 use Rattle.host_session.proofs.FrameTaken.{known_same}
-use Rattle.host_session.proofs.OneEvent.{HasGrown, grown_by}
+use Rattle.host_session.proofs.OneEvent.{HasGrown, grown_by, grown_nowhere}
 
 -- an image that is damaged nowhere and has the header
 pub record IsSound (image : List ℕ) : Type 0 where
@@ -135,7 +135,7 @@ grown_on a b c p q = record {
   counted = counted_on a b c p.counted q.counted;
 }
 
-pub resume_grown : (result : Result Node OpenFault) (old new : Told) → ResumeCalls host_rules found_of sent_again result old new → HasGrown old new
+pub resume_grown : (result : Result Node OpenFault) (old new : Told) → OpenCalls host_rules found_of sent_again result old new → HasGrown old new
 resume_grown (Ok node) old new calls = grown_on old calls.mid new (looked_grown true old calls.mid calls.looked) (grown_by true _ calls.mid new calls.sends)
 resume_grown (Err opens.LineFault) old new calls =
     let c = calls.2 in
@@ -143,7 +143,7 @@ resume_grown (Err opens.LineFault) old new calls =
 resume_grown (Err opens.SiteFault) old new calls = looked_grown false old new calls
 resume_grown (Err opens.NoHeader) old new calls = looked_grown true old new calls
 resume_grown (Err (opens.Damaged place)) old new calls = looked_grown true old new calls
-resume_grown (Err opens.NoMemory) old new calls = looked_grown true old new calls
+resume_grown (Err opens.NoMemory) old new calls = ⊎_elim (grown_nowhere old new) (looked_grown true old new) calls
 
 module _ (kept : Kept) (old new : Told) where
   abbrev frames : List (List ℕ)
@@ -212,8 +212,11 @@ module _ (kept : Kept) (old new : Told) where
     };
   }
 
+unsent_without_memory : (old new : Told) → (new ≡ old) ⊎ HasLooked true old new → sent new.log ≡ sent old.log
+unsent_without_memory old new calls = ⊎_elim (λ same. ap (λ (t : Told). sent t.log) same) (λ looked. looked.frames) calls
+
 ends_unopened : (fault : OpenFault) (old new : Told) → AnswersList host_rules found_of (reads old.log) (unopened fault)
-    → ResumeCalls host_rules found_of sent_again (unopened fault) old new → ResumesAll host_rules found_of sent_again (unopened fault) old new
+    → OpenCalls host_rules found_of sent_again (unopened fault) old new → ResumesAll host_rules found_of sent_again (unopened fault) old new
     → ServesAll (Err (open_end fault)) [] old new
 ends_unopened opens.SiteFault old new says calls moments kept pending stands =
     let r = moments (list_of kept) kept.recent pending stands in
@@ -229,7 +232,7 @@ ends_unopened opens.NoMemory old new says calls moments kept pending stands =
     let grown = resume_grown (Err opens.NoMemory) old new calls in
     record {
       plays = resumed_plays kept old new (Err opens.NoMemory) r grown;
-      ended = still kept old new grown.acts grown.grows (λ image found left. ((r.each image found left).stands, r.none_sent refl image found left)) calls.frames (rest_after kept old new (Err opens.NoMemory) r grown stands);
+      ended = still kept old new grown.acts grown.grows (λ image found left. ((r.each image found left).stands, r.none_sent refl image found left)) (unsent_without_memory old new calls) (rest_after kept old new (Err opens.NoMemory) r grown stands);
     }
 
 -- ---- sessions
@@ -251,14 +254,14 @@ input_unopened (opens.Damaged place) left = (refl, refl)
 input_unopened opens.NoMemory left = tt
 
 site_unopened : (fault : OpenFault) (a b : Option Told) → IfSome a (λ x. AnswersList host_rules found_of (reads x.log) (unopened fault))
-    → Goes a b (ResumeCalls host_rules found_of sent_again (unopened fault)) → Goes a b (ResumesAll host_rules found_of sent_again (unopened fault)) → Goes a b (ServesAll (Err (open_end fault)) [])
+    → Goes a b (OpenCalls host_rules found_of sent_again (unopened fault)) → Goes a b (ResumesAll host_rules found_of sent_again (unopened fault)) → Goes a b (ServesAll (Err (open_end fault)) [])
 site_unopened fault None b says calls moments = tt
 site_unopened fault (Some x) None says calls moments = absurd calls
 site_unopened fault (Some x) (Some y) says calls moments = ends_unopened fault x y says calls moments
 
 -- it isn't resumed
 pub not_opened : (start : View) (now : Option Told) (fault : OpenFault) → IfSome start.site (λ x. AnswersList host_rules found_of (reads x.log) (unopened fault))
-    → Goes start.site now (ResumeCalls host_rules found_of sent_again (unopened fault)) → Goes start.site now (ResumesAll host_rules found_of sent_again (unopened fault))
+    → Goes start.site now (OpenCalls host_rules found_of sent_again (unopened fault)) → Goes start.site now (ResumesAll host_rules found_of sent_again (unopened fault))
     → Session (Err (open_end fault)) start (record { left = start.left; given = start.given; site = now })
 not_opened start now fault says calls moments = record {
   bytes = [];
@@ -303,7 +306,7 @@ not_begun start = record {
       });
 }
 
-begun_on : (node : Node) → node.live ≡ true → (old new : Told) → ResumeCalls host_rules found_of sent_again (opened node) old new → ResumesAll host_rules found_of sent_again (opened node) old new
+begun_on : (node : Node) → node.live ≡ true → (old new : Told) → OpenCalls host_rules found_of sent_again (opened node) old new → ResumesAll host_rules found_of sent_again (opened node) old new
     → GoesOn [] node old new
 begun_on node live old new calls moments =
     let grown = resume_grown (Ok node) old new calls in
@@ -321,7 +324,7 @@ begun_on node live old new calls moments =
           };
     }
 
-site_begun : (node : Node) → node.live ≡ true → (a b : Option Told) → Goes a b (ResumeCalls host_rules found_of sent_again (opened node)) → Goes a b (ResumesAll host_rules found_of sent_again (opened node))
+site_begun : (node : Node) → node.live ≡ true → (a b : Option Told) → Goes a b (OpenCalls host_rules found_of sent_again (opened node)) → Goes a b (ResumesAll host_rules found_of sent_again (opened node))
     → Goes a b (GoesOn [] node)
 site_begun node live None b calls moments = tt
 site_begun node live (Some x) None calls moments = absurd calls
@@ -329,7 +332,7 @@ site_begun node live (Some x) (Some y) calls moments = begun_on node live x y ca
 
 -- it is resumed
 pub begun : (start : View) (intake : Intake) (node : Node) (now : Option Told) → intake ≡ record { held = []; taken = 0 } → node.live ≡ true
-    → Goes start.site now (ResumeCalls host_rules found_of sent_again (opened node)) → Goes start.site now (ResumesAll host_rules found_of sent_again (opened node))
+    → Goes start.site now (OpenCalls host_rules found_of sent_again (opened node)) → Goes start.site now (ResumesAll host_rules found_of sent_again (opened node))
     → Going start intake node (record { left = start.left; given = start.given; site = now })
 begun start intake node now fresh live calls moments = record {
   bytes = [];

@@ -9,5 +9,5 @@ mod tests;
 mod turns;
 
 pub use payloads::{ack_payload, output_payload, turned_payload};
-pub use reading::{Numbered, ReadText, read_text, with_mark};
+pub use reading::{Numbered, ReadText, TextReader, with_mark};
 pub use turns::{decision_on, posted, recorded, retrieve, submit, told_again};

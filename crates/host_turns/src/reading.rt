@@ -1,5 +1,5 @@
 // Reads what is submitted.
-ghost use Rattle.std.specs.Prelude.{◌≡◌, ◌≢◌, IfErr, IfOk, None, Some, slice_set};
+ghost use Rattle.std.specs.Prelude.{◌≡◌, IfOk, Some, slice_set};
 ghost use Rattle.host_ledger.specs.Soundness.{IsEnv};
 ghost use Rattle.faim_message.specs.Decoded.{decoded};
 ghost use Rattle.faim_message.specs.Heads.{head_of};
@@ -11,6 +11,7 @@ use faim_edits::first_failed;
 use faim_message::{Form, Message, submissions_show_their_bodies};
 use faim_stream::Decoder;
 use std::alloc::Global;
+use std::marker::Model;
 
 /// A message with a valid identifier.
 #[derive(Debug, Drop)]
@@ -33,33 +34,51 @@ pub enum ReadText {
     Numbered(Numbered),
 }
 
-/// What a text of any bytes is to a host whose configuration has this `T` or `P`. It is decoded once, by a decoder that is fed once.
-pub fn read_text(alloc: Global, env: u8, text: &[u8]) -> Result<ReadText, NoMemory>
-    requires { IsEnv env }
-    ensures { IfOk result (λ r. submission_of r ≡ submission env text.now) }
-{
-    match decoded(alloc, text) {
-        Ok(message) => read_message(alloc, env, text, &message),
-        Err(Refused::Byte(_)) => Ok(ReadText::Strange),
-        Err(Refused::Cut) => Ok(ReadText::Strange),
-        Err(Refused::Missing(_)) => Ok(ReadText::Strange),
-        Err(Refused::NoMemory) => Err(NoMemory),
-    }
+/// What reads texts that are submitted, one after another. It is made once, before a device is called: its room holds the
+/// text that is being read.
+#[derive(Drop)]
+pub struct TextReader {
+    alloc: Global,
+    decoder: Decoder,
 }
 
-// The Input message that the text spells.
-fn decoded(alloc: Global, text: &[u8]) -> Result<Message, Refused>
-    ensures form { IfOk result (λ m. m.form ≡ Form.Input) }
-    ensures read { IfOk result (λ m. decoded Form.Input text.now ≡ Some m) }
-    ensures none_read { IfErr result (λ e. e ≢ Refused.NoMemory → decoded Form.Input text.now ≡ None) }
-{
-    let mut decoder = match Decoder::new(alloc, Form::Input) {
-        Ok(decoder) => decoder,
-        Err(_) => return Err(Refused::NoMemory),
-    };
-    // A refusal is answered again at the end.
-    let _ = decoder.feed(text);
-    decoder.finish()
+impl Model for TextReader {
+    ghost use Rattle.std.specs.Prelude.{◌≡◌, []};
+    ghost use Rattle.faim_message.specs.declared.form.Form.TheVariants.{Input};
+    ghost use Rattle.faim_stream.specs.Fed.{IsFed};
+
+    ghost Value = { Unit {0} };
+
+    ghost view = { λ _. tt };
+
+    ghost invariant = { λ r. (r.decoder.form ≡ Input) × IsFed r.decoder [] };
+}
+
+impl TextReader {
+    /// Reserves the room of a decoder, 8,192 bytes.
+    pub fn new(alloc: Global) -> Result<TextReader, NoMemory> {
+        Ok(TextReader {
+            alloc,
+            decoder: Decoder::new(alloc, Form::Input)?,
+        })
+    }
+
+    /// What a text of any bytes is to a host whose configuration has this `T` or `P`. The text is decoded once, by a decoder
+    /// that is fed once, and the next call reads the next text, after `NoMemory` too. It takes memory for what it answers
+    /// and for the message (docs/FORMATS.md, "The order of verdicts").
+    pub fn read(&mut self, env: u8, text: &[u8]) -> Result<ReadText, NoMemory>
+        requires { IsEnv env }
+        ensures { IfOk result (λ r. submission_of r ≡ submission env text.now) }
+    {
+        let alloc = self.alloc;
+        match self.decoder.decode(text) {
+            Ok(message) => read_message(alloc, env, text, &message),
+            Err(Refused::Byte(_)) => Ok(ReadText::Strange),
+            Err(Refused::Cut) => Ok(ReadText::Strange),
+            Err(Refused::Missing(_)) => Ok(ReadText::Strange),
+            Err(Refused::NoMemory) => Err(NoMemory),
+        }
+    }
 }
 
 fn read_message(

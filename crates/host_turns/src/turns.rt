@@ -9,7 +9,7 @@ ghost use Rattle.faim_model.specs.Turns.{adds_to, submitted, told_again, entry_a
 ghost use Rattle.faim_model.specs.Verdicts.{judged};
 ghost use Rattle.host_turns.specs.Reading.{numbered_of};
 
-use crate::reading::{Numbered, ReadText, read_text};
+use crate::reading::{Numbered, ReadText, TextReader};
 use faim_base::{Endpoint, Head, Moment, NoMemory, OutPos, Reject, Verdict};
 use faim_model::{Decision, HostOutcome, turn_follows};
 use host_core::{HostState, Judged};
@@ -34,7 +34,8 @@ pub fn submit(
 {
     turn_follows();
     let config = state.config();
-    let submission = read_text(alloc, config.env, text)?;
+    let mut reader = TextReader::new(alloc)?;
+    let submission = reader.read(config.env, text)?;
     match submission {
         ReadText::Strange => Ok(turned(b'E', 1)),
         ReadText::Unnumbered => Ok(turned(b'E', 2)),

@@ -150,6 +150,30 @@ module _ {O E T : Type 0} (rules : Rules O E) (once : AreReadOnce rules) (view :
         ready = (subst (λ (f : Found O E). IsReady rules f z) (sym viewed) ready, ap (λ (f : Found O E). f.list) viewed ∙ one.0, ap (λ (f : Found O E). f.last) viewed ∙ one.1);
       }
 
+  -- none is to be sent
+  pub read_all : ((list : Listed O E) (last : ℕ) → again list last ≡ []) → (kept : T) → view kept ≡ loaded → ResumesAll rules view again (Ok kept) x y
+  read_all none kept viewed = λ list last quiet stands.
+      let one = same_list list last stands in
+      let are = looked.ran.are in
+      let ready : IsReady rules loaded y = record {
+        stands = record {
+          payloads = stands.payloads;
+          journal = subst (λ (l : List ℕ). IsJournal l stands.payloads) (sym looked.image) stands.journal;
+          stand = subst (λ (l : Listed O E). StandFor rules stands.payloads l loaded.last) (sym one.0) (subst (λ k. StandFor rules stands.payloads list k) (sym one.1) stands.stand);
+        };
+        pending = looked.pending;
+        place = same_tail list last stands;
+      } in
+      record {
+        each = λ image found left. let both = looked.quiet quiet image found left in none_yet rules list last (again list last) x stands y image found both.0 both.1;
+        none_sent = λ no. absurd cc;
+        pending = looked.pending;
+        image = looked.image;
+        most = λ ps journal. omega (arith, looked.few ps journal);
+        all = (looked.frames ∙ sym (append-nil (sent x.log)) ∙ ap (λ (l : List (List ℕ)). sent x.log ++ l) (sym (none list last)), omega (arith, looked.ran.ended.0, ap okays are.1, okays-append (replicate are.0 Asked) (Synced ∷ []), ap length (none list last)));
+        ready = (subst (λ (f : Found O E). IsReady rules f y) (sym viewed) ready, ap (λ (f : Found O E). f.list) viewed ∙ one.0, ap (λ (f : Found O E). f.last) viewed ∙ one.1);
+      }
+
 -- a fault before the first frame
 pub looked_all : {O E T : Type 0} (rules : Rules O E) (view : T → Found O E) (again : Listed O E → ℕ → List (List ℕ)) (e : OpenFault) (whole : Bool) (x y : Told) → HasLooked whole x y → ResumesAll rules view again (Err e) x y
 looked_all rules view again e whole x y looked = λ list last quiet stands. looked_only rules list last (again list last) x stands view e whole y looked quiet

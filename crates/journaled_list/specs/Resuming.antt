@@ -1,5 +1,5 @@
 -- What a resume says of its calls, of each moment since it began, and of its end.
-use Rattle.std.specs.Prelude.{◌≡◌, ℕ, ◌+◌, ◌-◌, ◌*◌, ◌≤◌, Bool, true, false, List, ◌++◌, length, take, Some, Result, Ok, Err, OnOk, IfOk}
+use Rattle.std.specs.Prelude.{◌≡◌, ◌⊎◌, ℕ, ◌+◌, ◌-◌, ◌*◌, ◌≤◌, Bool, true, false, List, [], ◌++◌, length, take, Some, Result, Ok, Err, OnOk, IfOk}
 use Rattle.site_core.specs.Log.{reads, sent, Left, NothingPending}
 use Rattle.site_core.specs.Told.{Told}
 use Rattle.torn_journal.specs.Journal.{IsJournal}
@@ -8,7 +8,7 @@ use Rattle.store_forward.specs.Sending.{SendCalls}
 use Rattle.journaled_list.specs.declared.faults.OpenFault.{OpenFault}
 use Rattle.journaled_list.specs.declared.faults.OpenFault.TheVariants.{SiteFault, LineFault, NoHeader, Damaged, NoMemory}
 use Rattle.journaled_list.specs.Rules.{Rules, Listed}
-use Rattle.journaled_list.specs.Loading.{Found, Finds}
+use Rattle.journaled_list.specs.Loading.{Found, Finds, no_disk_fault}
 use Rattle.journaled_list.specs.Payloads.{Stands}
 use Rattle.journaled_list.specs.Ready.{IsReady}
 
@@ -27,6 +27,25 @@ ResumeCalls rules view again (Err SiteFault) old new = HasLooked false old new
 ResumeCalls rules view again (Err NoHeader) old new = HasLooked true old new
 ResumeCalls rules view again (Err (Damaged place)) old new = HasLooked true old new
 ResumeCalls rules view again (Err NoMemory) old new = HasLooked true old new
+
+-- the calls of a node that makes first what it reads with: those of a resume, or none, where there is no memory for that
+abbrev pub OpenCalls : {T O E : Type 0} → Rules O E → (T → Found O E) → (Listed O E → ℕ → List (List ℕ)) → Result T OpenFault → Told → Told → Type 0
+OpenCalls rules view again (Err NoMemory) old new = (new ≡ old) ⊎ HasLooked true old new
+OpenCalls rules view again (Ok kept) old new = ResumeCalls rules view again (Ok kept) old new
+OpenCalls rules view again (Err fault) old new = ResumeCalls rules view again (Err fault) old new
+
+abbrev unread : OpenFault → Result (Unit {0}) OpenFault
+unread fault = Err fault
+
+-- nothing is sent again
+abbrev pub none_again : {O E : Type 0} → Listed O E → ℕ → List (List ℕ)
+none_again list last = []
+
+-- the calls of a node that makes first what it reads with, and then reads and sends nothing
+abbrev pub ReadCalls : {T : Type 0} → Result T OpenFault → Told → Told → Type 0
+ReadCalls (Err NoMemory) old new = (new ≡ old) ⊎ HasLooked true old new
+ReadCalls (Ok kept) old new = HasLooked true old new
+ReadCalls (Err fault) old new = HasLooked (no_disk_fault (unread fault)) old new
 
 -- the image stands for the same, and behind the frames sent before there are the first of these
 pub record IsResumeMoment {O E : Type 0} (rules : Rules O E) (list : Listed O E) (last : ℕ) (frames : List (List ℕ)) (old new : Told) (image : List ℕ) (found : List (List ℕ)) : Type 0 where

@@ -19,4 +19,4 @@ pub use kept::Kept;
 pub use laws::{images_stand_for_one_list, lists_are_damaged_once, payloads_go_on};
 pub use list::Journaled;
 pub use making::init;
-pub use resuming::resume;
+pub use resuming::{read_back, resume};

@@ -4,8 +4,8 @@ use Rattle.faim_tags.specs.Spelling.{braced}
 use Rattle.faim_tags.proofs.PartialLemmas.{alike_on}
 use Rattle.faim_tags.proofs.partial.close_alike.Goals as goal
 
-pub returns-then-byte_of-b : goal.returns-then-byte_of-b
-returns-then-byte_of-b c ns p =
+pub returns-then-byte_of-b-clause-step : goal.returns-then-byte_of-b-clause-step
+returns-then-byte_of-b-clause-step c ns p =
     let like = c.args.like in
     let count = c.args.count in
     let P : ℕ → Type 0 = λ n. is_tag_number n ≡ true in

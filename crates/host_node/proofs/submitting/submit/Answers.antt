@@ -65,24 +65,24 @@ returns-in-Unnumbered-clause-frames c =
     (ap (λ (k : Config). k.env) c.config-config.ensures.value) c.effective-moment.ensures in
     subst (λ (x : HostStep). OnOk c.turn_away-in-Unnumbered.result (c.turn_away-in-Unnumbered.new.outbox ≡ c.args.outbox.now ++ bytes_sent x)) step c.turn_away-in-Unnumbered.ensures.frames
 
-pub returns-in-Numbered-clause-told : goal.returns-in-Numbered-clause-told
-returns-in-Numbered-clause-told c =
+pub returns-clause-told : goal.returns-clause-told
+returns-clause-told c =
     let s = c.args.state.now in
     let step = text_step s.config s.entries c.args.line c.args.reading c.effective-moment.result c.config-config.result.now.env c.args.text.now
     c.in_ok-submission.submission (read.Numbered c.in-Numbered.message) c.in-Numbered.is c.in_ok-submission.ensures
     (ap (λ (k : Config). k.env) c.config-config.ensures.value) c.effective-moment.ensures in
     subst (λ (x : HostStep). IfOk c.post.result (λ p. p ≡ told x)) step c.post.ensures.told
 
-pub returns-in-Numbered-clause-entries : goal.returns-in-Numbered-clause-entries
-returns-in-Numbered-clause-entries c =
+pub returns-clause-entries : goal.returns-clause-entries
+returns-clause-entries c =
     let s = c.args.state.now in
     let step = text_step s.config s.entries c.args.line c.args.reading c.effective-moment.result c.config-config.result.now.env c.args.text.now
     c.in_ok-submission.submission (read.Numbered c.in-Numbered.message) c.in-Numbered.is c.in_ok-submission.ensures
     (ap (λ (k : Config). k.env) c.config-config.ensures.value) c.effective-moment.ensures in
     subst (λ (x : HostStep). OnOk c.post.result (c.post.new.state.entries ≡ adds_to x.adds s.entries)) step c.post.ensures.entries
 
-pub returns-in-Numbered-clause-frames : goal.returns-in-Numbered-clause-frames
-returns-in-Numbered-clause-frames c =
+pub returns-clause-frames : goal.returns-clause-frames
+returns-clause-frames c =
     let s = c.args.state.now in
     let step = text_step s.config s.entries c.args.line c.args.reading c.effective-moment.result c.config-config.result.now.env c.args.text.now
     c.in_ok-submission.submission (read.Numbered c.in-Numbered.message) c.in-Numbered.is c.in_ok-submission.ensures

@@ -11,14 +11,14 @@ post-requires c =
     let turn = numbered_turn s.config s.entries c.args.line c.args.reading c.effective-moment.result c.config-config.result.now.env c.args.text.now c.in_ok-submission.submission c.in-Numbered.message c.in-Numbered.is c.in_ok-submission.ensures (ap (λ (k : Config). k.env) c.config-config.ensures.value) c.effective-moment.ensures in
     λ x adds. c.turn_follows.ensures s.config s.entries c.args.line c.args.reading c.args.text.now x (sym (ap (λ (t : HostTurn). t.adds) turn) ∙ adds)
 
-pub returns-in-Numbered-clause-outcome : goal.returns-in-Numbered-clause-outcome
-returns-in-Numbered-clause-outcome c =
+pub returns-clause-outcome : goal.returns-clause-outcome
+returns-clause-outcome c =
     let s = c.args.state.now in
     let turn = numbered_turn s.config s.entries c.args.line c.args.reading c.effective-moment.result c.config-config.result.now.env c.args.text.now c.in_ok-submission.submission c.in-Numbered.message c.in-Numbered.is c.in_ok-submission.ensures (ap (λ (k : Config). k.env) c.config-config.ensures.value) c.effective-moment.ensures in
     subst (λ (t : HostTurn). IfOk c.post.result (λ x. x ≡ t.outcome)) turn c.post.ensures.outcome
 
-pub returns-in-Numbered-clause-entries : goal.returns-in-Numbered-clause-entries
-returns-in-Numbered-clause-entries c =
+pub returns-clause-entries : goal.returns-clause-entries
+returns-clause-entries c =
     let s = c.args.state.now in
     let turn = numbered_turn s.config s.entries c.args.line c.args.reading c.effective-moment.result c.config-config.result.now.env c.args.text.now c.in_ok-submission.submission c.in-Numbered.message c.in-Numbered.is c.in_ok-submission.ensures (ap (λ (k : Config). k.env) c.config-config.ensures.value) c.effective-moment.ensures in
     subst (λ (t : HostTurn). OnOk c.post.result (c.post.new.state.entries ≡ adds_to t.adds s.entries)) turn c.post.ensures.entries
