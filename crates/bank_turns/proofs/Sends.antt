@@ -40,15 +40,20 @@ use Rattle.bank_turns.specs.AckTexts.{Told, ack_told}
 use Rattle.bank_turns.specs.OutputTexts.{Given, output_given}
 use Rattle.bank_turns.specs.BankSteps.{BankStep, ack_step, answered_by, bank_step, draft_step, drafted_as, output_step, received_by, refused_with, reminded, step_on, strange, tick_step}
 
--- a draft with an IMAD spells a submission
-pub numbered_spells : (payload : List ℕ) (m : Content) (imad : Imad) → decoded Form.Draft payload ≡ Some m → IsEndpoint imad.source
-    → Spells (marked_with 32 (numbered m (imad_text imad))) (draft_text m imad)
-numbered_spells payload m imad found line =
+-- a draft with an IMAD is a submission
+pub numbered_sound : (payload : List ℕ) (m : Content) (imad : Imad) → decoded Form.Draft payload ≡ Some m → IsEndpoint imad.source
+    → IsMessage (numbered m (imad_text imad))
+numbered_sound payload m imad found line =
     let h = decoded_spelled Form.Draft payload m found in
     let draft : IsMessage (record { form = Form.Draft; breaks = m.breaks; tags = m.tags }) =
     subst (λ (form : Form). IsMessage (record { form = form; breaks = m.breaks; tags = m.tags })) h.1 h.0.sound in
-    let put : IsMessage (numbered m (imad_text imad)) =
-    IsMessage-put m.breaks 1510 (imad_tag (imad_text imad)) m.tags refl (imad_is_tag imad line) draft in
+    IsMessage-put m.breaks 1510 (imad_tag (imad_text imad)) m.tags refl (imad_is_tag imad line) draft
+
+-- with a blank as its mark its text spells it
+pub numbered_spells : (payload : List ℕ) (m : Content) (imad : Imad) → decoded Form.Draft payload ≡ Some m → IsEndpoint imad.source
+    → Spells (marked_with 32 (numbered m (imad_text imad))) (draft_text m imad)
+numbered_spells payload m imad found line =
+    let put = numbered_sound payload m imad found line in
     let marked = mark_spells (numbered m (imad_text imad)) (message_spelling (numbered m (imad_text imad))) 32 (record { sound = put; spelled = refl }) refl in
     record { sound = marked.sound; spelled = refl }
 

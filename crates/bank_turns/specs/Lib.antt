@@ -3,3 +3,4 @@ pub mod Drafting
 pub mod AckTexts
 pub mod OutputTexts
 pub mod BankSteps
+pub mod KeptTexts

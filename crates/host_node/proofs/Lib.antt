@@ -1,9 +1,7 @@
-mod AsNodes
 pub mod AtPlaces
 pub mod CycleFrames
 pub mod GivenAgain
 pub mod Handled
 pub mod Newest
 pub mod NextEntries
-mod Secured
 pub mod StepSides

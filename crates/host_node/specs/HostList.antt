@@ -1,5 +1,5 @@
 -- A host's list as its journal keeps it.
-use Rattle.std.specs.Prelude.{◌≡◌, ℕ, List, map}
+use Rattle.std.specs.Prelude.{ℕ, List, map}
 use Rattle.link_frames.specs.Frames.{frame_bytes}
 use Rattle.host_ledger.specs.declared.config.Config.{Config}
 use Rattle.host_ledger.specs.declared.entries.Entry.{Entry}

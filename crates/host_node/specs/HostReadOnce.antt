@@ -1,5 +1,5 @@
 -- The law that a host's list is read in one way, which the journal's readers ask for.
-use Rattle.std.proofs.Common.{◌≡◌, ◌++◌, [], ap, le_trans, zero-lt-suc}
+use Rattle.std.proofs.Common.{◌++◌, [], ap, le_trans, zero-lt-suc}
 use Rattle.entry_codec.proofs.Configs.{one_config}
 use Rattle.entry_codec.proofs.Entries.{one_entry}
 use Rattle.entry_codec.proofs.Lengths.{entry_small}

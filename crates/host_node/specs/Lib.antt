@@ -1,9 +1,7 @@
-pub mod Faults
 pub mod Following
-pub mod Handling
 pub mod HostList
 pub mod HostReadOnce
 pub mod Node
 pub mod Preparing
 pub mod Resending
-pub mod Securing
+pub mod Stepping

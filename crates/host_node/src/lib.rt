@@ -1,7 +1,6 @@
 //! A host on its site: a journal keeps its list, and its frames are sent once the record that they rest on is secured.
 #![tactic(auto)]
 
-mod faults;
 mod following;
 mod handling;
 mod host_list;
@@ -13,8 +12,8 @@ mod submitting;
 #[cfg(test)]
 mod tests;
 
-pub use faults::HostFault;
 pub use host_list::HostList;
 pub use host_turns::{ack_payload, output_payload, turned_payload};
 pub use journaled_list::OpenFault;
+pub use journaled_steps::StepFault as HostFault;
 pub use node::HostNode;

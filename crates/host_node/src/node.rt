@@ -10,8 +10,8 @@ ghost use Rattle.journaled_list.specs.Faults.{OpenReason, OpenDiskCount, OpenLin
 ghost use Rattle.journaled_list.specs.Loading.{SaysOfImage, AnswersImage};
 ghost use Rattle.journaled_list.specs.Making.{Inits};
 ghost use Rattle.journaled_list.specs.Resuming.{OpenCalls, ResumesAll};
-ghost use Rattle.host_node.specs.HostList.{host_rules, sent_again};
-ghost use Rattle.host_node.specs.Node.{found_of};
+ghost use Rattle.journaled_steps.specs.Node.{found_of};
+ghost use Rattle.host_node.specs.HostList.{host_rules, listed, sent_again};
 
 use crate::HostList;
 use crate::host_list::HostReader;
@@ -34,11 +34,14 @@ pub struct HostNode {
 }
 
 impl Model for HostNode {
-    ghost use Rattle.host_node.specs.Node.{Node};
+    ghost use Rattle.host_ledger.specs.declared.config.Config.{Config};
+    ghost use Rattle.host_ledger.specs.declared.entries.Entry.{Entry};
+    ghost use Rattle.journaled_steps.specs.Node.{Node, node_with};
+    ghost use Rattle.host_node.specs.HostList.{listed};
 
-    ghost Value = { Node };
+    ghost Value = { Node Config Entry };
 
-    ghost view = { λ h. record { state = h.kept.list.state; last = h.kept.last; tail = h.kept.journal; live = h.live } };
+    ghost view = { λ h. node_with (listed h.kept.list.state) h.kept h.live };
 }
 
 impl HostNode {
@@ -52,7 +55,7 @@ impl HostNode {
         requires { IsConfig config }
 
         ensures told { Goes (S.told site.old) (S.told site.new) (Inits host_rules found_of (config_bytes config) result) }
-        ensures state { IfOk result (λ h. (h.state ≡ record { config = config; entries = [] }) × (h.last ≡ 0)) }
+        ensures state { IfOk result (λ h. (h.list ≡ record { opening = config; entries = [] }) × (h.last ≡ 0)) }
         ensures live { IfOk result (λ h. h.live ≡ true) }
         ensures untouched { result ≡ Err CreateFault.NoMemory → site.new ≡ site.old }
         ensures later { S.disk_faults site.old ≤ S.disk_faults site.new }
@@ -127,7 +130,7 @@ impl HostNode {
 
     /// Its configuration and entries.
     pub fn state(&self) -> &HostState
-        ensures { result.now ≡ self.now.state }
+        ensures { listed result.now ≡ self.now.list }
     {
         &self.kept.list.state
     }

@@ -1,22 +1,24 @@
 -- A session, by what a frame at the front of its input does.
-use Rattle.std.proofs.Common.{◌≡◌, ℕ, List, [], ◌∷◌, ◌++◌, map, take, refl, sym, ◌∙◌, ap, subst, Option, Some, None, Result, Ok, Err, append-nil, append_assoc}
+use Rattle.std.proofs.Common.{◌≡◌, ℕ, List, [], ◌∷◌, ◌++◌, refl, sym, ◌∙◌, ap, subst, Option, Some, None, Result, Ok, Err, append-nil, append_assoc}
 use Rattle.std.specs.List.{AllByRecursion}
 use Rattle.std.specs.Io.KnownBytes.{append_known}
 use Rattle.std.proofs.lemmas.List.{map-append}
 use Rattle.site_core.specs.Told.{Told, Goes}
 use Rattle.site_core.proofs.Runs.{goes_as, goes_on}
 use Rattle.link_frames.specs.Frames.{Content as Frame, IsFrame, frame_bytes}
-use Rattle.link_frames.specs.Splits.{Splits}
 use Rattle.framed_input.specs.Intake.{Intake}
-use Rattle.framed_input.specs.Limits.{greatest_input}
 use Rattle.framed_input.specs.Reading.{HasRead}
 use Rattle.framed_input.proofs.InputFrames.{first_ones, hands_out}
+use Rattle.host_ledger.specs.declared.config.Config.{Config}
+use Rattle.host_ledger.specs.declared.entries.Entry.{Entry}
 use Rattle.faim_model.specs.declared.decisions.HostOutcome.{HostOutcome}
 use Rattle.faim_model.specs.Sessions.{Arrival, IsArrival}
-use Rattle.host_node.specs.declared.faults.HostFault.{HostFault}
-use Rattle.host_node.specs.declared.faults.HostFault.TheVariants.{SiteFault, LineFault, JournalFull, NoMemory}
-use Rattle.host_node.specs.Handling.{HasRoom, NodeAfter}
-use Rattle.host_node.specs.Node.{Node}
+use Rattle.journaled_steps.specs.declared.faults.StepFault.{StepFault}
+use Rattle.journaled_steps.specs.declared.faults.StepFault.TheVariants.{SiteFault, LineFault, JournalFull, NoMemory}
+use Rattle.journaled_steps.specs.Node.{Node}
+use Rattle.journaled_steps.specs.Steps.{HasRoom, NodeAfter}
+use Rattle.host_node.specs.HostList.{host_rules}
+use Rattle.host_node.specs.Stepping.{as_step}
 use Rattle.line_sessions.specs.declared.ends.SessionEnd.{SessionEnd}
 use Rattle.line_sessions.specs.declared.ends.SessionEnd.TheVariants as ends
 use Rattle.host_session.specs.Ending.{EndsInput, IsAhead, IsDone}
@@ -40,7 +42,7 @@ each_on [] a each is = (is, tt)
 each_on (b ∷ arrivals) a each is = (each.0, each_on arrivals a each.1 is)
 
 -- what came so far
-pub came_of : (start : View) (intake : Intake) (node : Node) (now : View) (g : Going start intake node now) → HasCome g.arrivals g.bytes start now
+pub came_of : (start : View) (intake : Intake) (node : Node Config Entry) (now : View) (g : Going start intake node now) → HasCome g.arrivals g.bytes start now
 came_of start intake node now g = record {
   taken = g.taken;
   few = g.few;
@@ -50,13 +52,13 @@ came_of start intake node now g = record {
 }
 
 -- where all that came is done, the session may end so that all of it is
-pub done_site : (arrivals : List Arrival) (node : Node) (old new : Told) → GoesOn arrivals node old new → (end : Result (Unit {0}) SessionEnd)
+pub done_site : (arrivals : List Arrival) (node : Node Config Entry) (old new : Told) → GoesOn arrivals node old new → (end : Result (Unit {0}) SessionEnd)
     → ((kept : _) → IsDone kept (events arrivals) old new → Serves end kept arrivals old new) → ServesAll end arrivals old new
 done_site arrivals node old new g end serves kept pending stands =
     let r = g.ready kept pending stands in
     serves kept (record { plays = r.plays; rest = at_rest node _ new r.live r.same })
 
-module _ (start : View) (left given : Option (List ℕ)) (site : Option Told) (intake : Intake) (node : Node) (g : Going start intake node (record { left = left; given = given; site = site }))
+module _ (start : View) (left given : Option (List ℕ)) (site : Option Told) (intake : Intake) (node : Node Config Entry) (g : Going start intake node (record { left = left; given = given; site = site }))
     (f : Frame) (sound : IsFrame f) (after : Intake) (held : intake.held ≡ frame_bytes f ++ after.held) (taken : after.taken ≡ intake.taken) where
   abbrev frames : List Frame
   frames = frames_of g.arrivals
@@ -119,7 +121,7 @@ module _ (start : View) (left given : Option (List ℕ)) (site : Option Told) (i
     }
 
     -- it is handled
-    pub handled : (o : HostOutcome) (next : Node) (now : Option Told) → NodeAfter (Ok o) (step_of (kept_of node) arrival) node next
+    pub handled : (o : HostOutcome) (next : Node Config Entry) (now : Option Told) → NodeAfter host_rules (Ok o) (as_step (step_of (kept_of node) arrival)) node next
         → Goes site now (HandledAt (Ok o) arrival node next) → Going start after next (record { left = left; given = later; site = now })
     handled o next now stepped told = record {
       bytes = g.bytes;
@@ -133,15 +135,15 @@ module _ (start : View) (left given : Option (List ℕ)) (site : Option Told) (i
           (λ x y z on h. went_on g.arrivals arrival node next o x y z stepped on h) g.site told;
     }
 
-    any_input : (fault : HostFault) → EndsInput (Err (host_end fault)) more g.bytes left
+    any_input : (fault : StepFault) → EndsInput (Err (host_end fault)) more g.bytes left
     any_input SiteFault = tt
     any_input LineFault = tt
     any_input (JournalFull t n) = tt
     any_input NoMemory = tt
 
     -- it isn't handled whole
-    pub not_handled : (fault : HostFault) (next : Node) (now : Option Told) → NodeAfter (Err fault) (step_of (kept_of node) arrival) node next
-        → HasRoom {T = HostOutcome} (Err fault) (step_of (kept_of node) arrival).adds node.tail
+    pub not_handled : (fault : StepFault) (next : Node Config Entry) (now : Option Told) → NodeAfter host_rules (Err fault) (as_step (step_of (kept_of node) arrival)) node next
+        → HasRoom {T = HostOutcome} host_rules (Err fault) (step_of (kept_of node) arrival).adds node.tail
         → Goes site now (HandledAt (Err fault) arrival node next) → Session (Err (host_end fault)) start (record { left = left; given = later; site = now })
     not_handled fault next now stepped room told = record {
       bytes = g.bytes;

@@ -1,10 +1,9 @@
 -- A session reads on, and ends with its input.
-use Rattle.std.proofs.Common.{◌≡◌, ◌≢◌, ◌↔◌, ⊎_elim, ℕ, ◌+◌, ◌<◌, ◌≤◌, Bool, true, false, List, [], ◌++◌, take, length, refl, sym, ◌∙◌, ap, subst, Option, Some, Result, Ok, Err, append-nil, arith}
+use Rattle.std.proofs.Common.{◌≡◌, ◌≢◌, ◌↔◌, ⊎_elim, ℕ, ◌+◌, ◌<◌, ◌≤◌, Bool, true, false, List, ◌++◌, take, refl, ap, subst, Option, Result, Ok, Err, arith}
 use Rattle.std.proofs.lemmas.Bool.{cases_lt}
 use Rattle.std.proofs.KnownBytes.{Consumes-trans}
 use Rattle.site_core.specs.Told.{Told}
 use Rattle.site_core.proofs.Runs.{goes_as}
-use Rattle.link_frames.specs.Frames.{Content as Frame}
 use Rattle.link_frames.specs.Splits.{Splits, is_whole}
 use Rattle.framed_input.specs.declared.ends.InputEnd.{InputEnd}
 use Rattle.framed_input.specs.declared.ends.InputEnd.TheVariants as inputs
@@ -12,8 +11,9 @@ use Rattle.framed_input.specs.Intake.{Intake}
 use Rattle.framed_input.specs.Limits.{greatest_input}
 use Rattle.framed_input.specs.Taking.{Answers, Takes}
 use Rattle.framed_input.proofs.InputFrames.{short_input, takes_more}
-use Rattle.host_node.specs.Node.{Node}
-use Rattle.line_sessions.specs.declared.ends.SessionEnd.{SessionEnd}
+use Rattle.host_ledger.specs.declared.config.Config.{Config}
+use Rattle.host_ledger.specs.declared.entries.Entry.{Entry}
+use Rattle.journaled_steps.specs.Node.{Node}
 use Rattle.line_sessions.specs.declared.ends.SessionEnd.TheVariants as ends
 use Rattle.host_session.specs.Ending.{AllCame, EndsInput}
 use Rattle.host_session.specs.Ends.{input_end}
@@ -30,7 +30,7 @@ abbrev ended_as : InputEnd → Result Bool InputEnd
 ended_as end = Err end
 
 -- more was taken
-pub advanced : (start : View) (left rest given : Option (List ℕ)) (site : Option Told) (old new : Intake) (node : Node)
+pub advanced : (start : View) (left rest given : Option (List ℕ)) (site : Option Told) (old new : Intake) (node : Node Config Entry)
     → Going start old node (record { left = left; given = given; site = site }) → Takes greatest_input left rest old new → new.taken ≤ greatest_input + 1
     → Going start new node (record { left = rest; given = given; site = site })
 advanced start left rest given site old new node g t most = record {
@@ -44,7 +44,7 @@ advanced start left rest given site old new node g t most = record {
   site = g.site;
 }
 
-module _ (start : View) (left given : Option (List ℕ)) (site : Option Told) (intake : Intake) (node : Node) (g : Going start intake node (record { left = left; given = given; site = site })) where
+module _ (start : View) (left given : Option (List ℕ)) (site : Option Told) (intake : Intake) (node : Node Config Entry) (g : Going start intake node (record { left = left; given = given; site = site })) where
   abbrev now : View
   now = record { left = left; given = given; site = site }
 

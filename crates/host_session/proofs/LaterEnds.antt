@@ -1,5 +1,5 @@
 -- What ends a session that was opened.
-use Rattle.std.proofs.Common.{◌≡◌, Result, Ok, Err}
+use Rattle.std.proofs.Common.{Err}
 use Rattle.site_core.specs.Told.{Told, Counted}
 use Rattle.site_core.specs.Told.Part.{Disk, Line}
 use Rattle.site_core.proofs.Runs.{reason_after}

@@ -6,11 +6,13 @@ use Rattle.site_core.specs.Log.Act.{Restarted}
 use Rattle.site_core.specs.Told.{Restarts, Told}
 use Rattle.site_core.proofs.Moments.{counts_now, leaves_reads, restarted}
 use Rattle.host_ledger.specs.declared.config.Config.{Config}
-use Rattle.host_core.specs.State.{State}
+use Rattle.host_ledger.specs.declared.entries.Entry.{Entry}
 use Rattle.journaled_list.specs.Making.{Inits}
+use Rattle.journaled_list.specs.Rules.{Listed}
+use Rattle.journaled_steps.specs.Node.{Node, found_of}
 use Rattle.faim_model.specs.Sessions.{Arrival}
 use Rattle.host_node.specs.HostList.{host_rules}
-use Rattle.host_node.specs.Node.{HostStands, Node, found_of}
+use Rattle.host_node.specs.Node.{HostStands}
 use Rattle.line_sessions.specs.declared.ends.SessionEnd.{SessionEnd}
 use Rattle.line_sessions.specs.declared.ends.SessionEnd.TheVariants as ends
 use Rattle.line_sessions.specs.Plays.{IsMoment, Plays, all_after}
@@ -123,16 +125,16 @@ module _ (kept : Kept) (taken : List Event) (a b c : Told) (plays : Plays host_p
       (order.0, order.1, order.2, record { stands = order.3; pending = restarts_at.1 })
 
 -- a host that was made
-made_list : (node : Node) (config : Config) → node.state ≡ record { config = config; entries = [] } → node.last ≡ 0 → (image : List ℕ)
-    → HostStands image node.state.config node.state.entries node.last → HostStands image config [] 0
-made_list node config state last image stands =
+made_list : (node : Node Config Entry) (config : Config) → node.list ≡ record { opening = config; entries = [] } → node.last ≡ 0 → (image : List ℕ)
+    → HostStands image node.list.opening node.list.entries node.last → HostStands image config [] 0
+made_list node config list last image stands =
     subst (λ (n : ℕ). HostStands image config [] n) last
-    (subst (λ (s : State). HostStands image s.config s.entries node.last) state stands)
+    (subst (λ (l : Listed Config Entry). HostStands image l.opening l.entries node.last) list stands)
 
-pub rests_made : (opening : List ℕ) (config : Config) (node : Node) (old new : Told) → Inits host_rules found_of opening (Ok node) old new
-    → node.state ≡ record { config = config; entries = [] } → node.last ≡ 0
+pub rests_made : (opening : List ℕ) (config : Config) (node : Node Config Entry) (old new : Told) → Inits host_rules found_of opening (Ok node) old new
+    → node.list ≡ record { opening = config; entries = [] } → node.last ≡ 0
     → AtRest (record { config = config; entries = []; recent = 0 }) new × (sent new.log ≡ sent old.log)
-rests_made opening config node old new makes state last = (
-  record { stands = made_list node config state last (reads new.log) makes.ready.stands; pending = makes.ready.pending },
+rests_made opening config node old new makes list last = (
+  record { stands = made_list node config list last (reads new.log) makes.ready.stands; pending = makes.ready.pending },
   makes.made.frames,
 )

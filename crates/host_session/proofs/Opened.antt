@@ -1,12 +1,11 @@
 -- A session that begins, or whose host isn't resumed.
-use Rattle.std.proofs.Common.{◌≡◌, ◌≢◌, ◌⊎◌, inl, inr, ⊎_elim, ℕ, ◌≤◌, Bool, true, false, List, [], ◌∷◌, ◌++◌, length, take, map, refl, sym, ◌∙◌, ap, subst, Option, Some, None, Result, Ok, Err, append-nil, append_assoc, arith}
+use Rattle.std.proofs.Common.{◌≡◌, ◌≢◌, ◌⊎◌, inl, inr, ⊎_elim, ℕ, Bool, true, false, List, [], ◌∷◌, ◌++◌, length, take, refl, sym, ◌∙◌, ap, subst, Option, Some, None, Result, Ok, Err, append-nil, append_assoc, arith}
 use Rattle.std.specs.Prelude.{IfSome}
-use Rattle.std.specs.Io.KnownBytes.{Consumes}
 use Rattle.std.proofs.KnownBytes.{Consumes-nil}
-use Rattle.site_core.specs.Log.{Act, reads, sent, Left, NothingPending}
-use Rattle.site_core.specs.Told.{Told, Counted, Goes}
+use Rattle.site_core.specs.Log.{Act, reads, sent, Left}
+use Rattle.site_core.specs.Told.{Told, Goes}
 use Rattle.site_core.proofs.Moments.{only_reads}
-use Rattle.site_core.proofs.Runs.{counted_on, goes_as, goes_nowhere}
+use Rattle.site_core.proofs.Runs.{counted_on, goes_nowhere}
 use Rattle.torn_journal.specs.Journal.{HasHeader}
 use Rattle.torn_journal.specs.Resume.{HasLooked}
 use Rattle.framed_input.specs.Intake.{Intake}
@@ -16,21 +15,21 @@ use Rattle.journaled_list.specs.declared.faults.OpenFault.TheVariants as opens
 use Rattle.journaled_list.specs.Loading.{GivesList, Refuses}
 use Rattle.journaled_list.specs.Loading.{AnswersImage as AnswersList}
 use Rattle.journaled_list.specs.Payloads.{IsListDamage, Stands}
-use Rattle.journaled_list.specs.Resuming.{IsResumeMoment, ReadsAndSends, OpenCalls, Resumes, ResumesAll}
+use Rattle.journaled_list.specs.Resuming.{IsResumeMoment, OpenCalls, Resumes, ResumesAll}
 use Rattle.journaled_list.specs.Rules.{Listed}
+use Rattle.journaled_steps.specs.Node.{Node, found_of}
 use Rattle.host_ledger.specs.declared.config.Config.{Config}
 use Rattle.host_ledger.specs.declared.entries.Entry.{Entry}
 use Rattle.host_node.specs.HostList.{host_rules, sent_again}
-use Rattle.host_node.specs.Node.{Node, found_of}
 use Rattle.line_sessions.specs.declared.ends.SessionEnd.{SessionEnd}
 use Rattle.line_sessions.specs.declared.ends.SessionEnd.TheVariants as ends
-use Rattle.line_sessions.specs.Plays.{IsMoment, Plays, PlaysOut, all_sent}
-use Rattle.host_session.specs.Ending.{Answered, AnswersImage, AtRest, EndsInput, IsDone, IsShort}
+use Rattle.line_sessions.specs.Plays.{IsMoment, Plays, all_sent}
+use Rattle.host_session.specs.Ending.{Answered, AnswersImage, AtRest, EndsInput, IsShort}
 use Rattle.host_session.specs.Ends.{open_end}
-use Rattle.host_session.specs.Going.{Going, GoesOn, IsLaterEnd, kept_of}
-use Rattle.host_session.specs.HostPart.{Event, Kept, KeptStands, events, host_part}
+use Rattle.host_session.specs.Going.{Going, GoesOn, IsLaterEnd}
+use Rattle.host_session.specs.HostPart.{Kept, KeptStands, host_part}
 use Rattle.host_session.specs.HostPart.Event.{Resumed}
-use Rattle.host_session.specs.Serving.{Serves, ServesAll, Session}
+use Rattle.host_session.specs.Serving.{ServesAll, Session}
 use Rattle.host_session.specs.Views.{View, HasCome}
 use Rattle.host_session.proofs.FrameTaken.{known_same}
 use Rattle.host_session.proofs.OneEvent.{HasGrown, grown_by, grown_nowhere}
@@ -44,10 +43,10 @@ pub record IsSound (image : List ℕ) : Type 0 where
 abbrev list_of : Kept → Listed Config Entry
 list_of kept = record { opening = kept.config; entries = kept.entries }
 
-abbrev opened : Node → Result Node OpenFault
+abbrev opened : Node Config Entry → Result (Node Config Entry) OpenFault
 opened node = Ok node
 
-abbrev unopened : OpenFault → Result Node OpenFault
+abbrev unopened : OpenFault → Result (Node Config Entry) OpenFault
 unopened fault = Err fault
 
 abbrev ended_as : SessionEnd → Result (Unit {0}) SessionEnd
@@ -55,7 +54,7 @@ ended_as end = Err end
 
 -- ---- the image
 
-pub sound_image : (image : List ℕ) (node : Node) → AnswersList host_rules found_of image (opened node) → IsSound image
+pub sound_image : (image : List ℕ) (node : Node Config Entry) → AnswersList host_rules found_of image (opened node) → IsSound image
 sound_image image node says = record { whole = says.damaged; headed = says.headless }
 
 not_answered : (image : List ℕ) (fault : OpenFault) → ((list : Listed Config Entry) (last : ℕ) → Stands host_rules image list last → GivesList found_of list last (unopened fault))
@@ -110,7 +109,7 @@ if_known : (P Q : Told → Type 0) (a : Option Told) → ((x : Told) → P x →
 if_known P Q None h p = tt
 if_known P Q (Some x) h p = h x p
 
-pub known_sound : (a : Option Told) (node : Node) → IfSome a (λ x. AnswersList host_rules found_of (reads x.log) (opened node)) → IfSome a (λ x. IsSound (reads x.log))
+pub known_sound : (a : Option Told) (node : Node Config Entry) → IfSome a (λ x. AnswersList host_rules found_of (reads x.log) (opened node)) → IfSome a (λ x. IsSound (reads x.log))
 known_sound a node says = if_known (λ x. AnswersList host_rules found_of (reads x.log) (opened node)) (λ x. IsSound (reads x.log)) a (λ x p. sound_image (reads x.log) node p) says
 
 pub known_done : (a : Option Told) → IfSome a (λ x. IsSound (reads x.log)) → IfSome a (λ x. AnswersImage (reads x.log) (Ok tt))
@@ -135,7 +134,7 @@ grown_on a b c p q = record {
   counted = counted_on a b c p.counted q.counted;
 }
 
-pub resume_grown : (result : Result Node OpenFault) (old new : Told) → OpenCalls host_rules found_of sent_again result old new → HasGrown old new
+pub resume_grown : (result : Result (Node Config Entry) OpenFault) (old new : Told) → OpenCalls host_rules found_of sent_again result old new → HasGrown old new
 resume_grown (Ok node) old new calls = grown_on old calls.mid new (looked_grown true old calls.mid calls.looked) (grown_by true _ calls.mid new calls.sends)
 resume_grown (Err opens.LineFault) old new calls =
     let c = calls.2 in
@@ -167,7 +166,7 @@ module _ (kept : Kept) (old new : Told) where
     found_are = m.found_are ∙ ap (λ (l : List (List ℕ)). sent old.log ++ take m.number l) (sym resumed_sent);
   }
 
-  module _ (result : Result Node OpenFault) (r : Resumes host_rules found_of result (list_of kept) kept.recent frames old new) (grown : HasGrown old new) where
+  module _ (result : Result (Node Config Entry) OpenFault) (r : Resumes host_rules found_of result (list_of kept) kept.recent frames old new) (grown : HasGrown old new) where
     resumed_plays : Plays host_part kept (Resumed ∷ []) old new
     resumed_plays = record {
       acts = grown.acts;
@@ -306,7 +305,7 @@ not_begun start = record {
       });
 }
 
-begun_on : (node : Node) → node.live ≡ true → (old new : Told) → OpenCalls host_rules found_of sent_again (opened node) old new → ResumesAll host_rules found_of sent_again (opened node) old new
+begun_on : (node : Node Config Entry) → node.live ≡ true → (old new : Told) → OpenCalls host_rules found_of sent_again (opened node) old new → ResumesAll host_rules found_of sent_again (opened node) old new
     → GoesOn [] node old new
 begun_on node live old new calls moments =
     let grown = resume_grown (Ok node) old new calls in
@@ -324,14 +323,14 @@ begun_on node live old new calls moments =
           };
     }
 
-site_begun : (node : Node) → node.live ≡ true → (a b : Option Told) → Goes a b (OpenCalls host_rules found_of sent_again (opened node)) → Goes a b (ResumesAll host_rules found_of sent_again (opened node))
+site_begun : (node : Node Config Entry) → node.live ≡ true → (a b : Option Told) → Goes a b (OpenCalls host_rules found_of sent_again (opened node)) → Goes a b (ResumesAll host_rules found_of sent_again (opened node))
     → Goes a b (GoesOn [] node)
 site_begun node live None b calls moments = tt
 site_begun node live (Some x) None calls moments = absurd calls
 site_begun node live (Some x) (Some y) calls moments = begun_on node live x y calls moments
 
 -- it is resumed
-pub begun : (start : View) (intake : Intake) (node : Node) (now : Option Told) → intake ≡ record { held = []; taken = 0 } → node.live ≡ true
+pub begun : (start : View) (intake : Intake) (node : Node Config Entry) (now : Option Told) → intake ≡ record { held = []; taken = 0 } → node.live ≡ true
     → Goes start.site now (OpenCalls host_rules found_of sent_again (opened node)) → Goes start.site now (ResumesAll host_rules found_of sent_again (opened node))
     → Going start intake node (record { left = start.left; given = start.given; site = now })
 begun start intake node now fresh live calls moments = record {

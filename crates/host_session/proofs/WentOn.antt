@@ -1,22 +1,24 @@
 -- A session that handles one frame more.
-use Rattle.std.proofs.Common.{◌≡◌, ℕ, List, [], ◌∷◌, ◌++◌, map, refl, sym, ◌∙◌, ap, subst, Option, Some, None, Result, Ok, Err, append_assoc, arith}
+use Rattle.std.proofs.Common.{◌≡◌, ℕ, List, [], ◌∷◌, ◌++◌, refl, sym, ◌∙◌, ap, subst, Option, Some, None, Result, Ok, Err, arith}
 use Rattle.std.proofs.lemmas.List.{map-append}
 use Rattle.site_core.specs.Log.{reads, sent, NothingPending}
 use Rattle.site_core.specs.Told.{Told, Goes}
 use Rattle.site_core.proofs.Runs.{counted_on}
+use Rattle.host_ledger.specs.declared.config.Config.{Config}
 use Rattle.host_ledger.specs.declared.entries.Entry.{Entry}
 use Rattle.torn_journal.specs.Journal.{tail_of}
 use Rattle.journaled_list.specs.Payloads.{StandFor}
 use Rattle.faim_model.specs.declared.decisions.HostOutcome.{HostOutcome}
-use Rattle.faim_model.specs.Sessions.{Arrival}
+use Rattle.faim_model.specs.Sessions.{Arrival, recent_with}
 use Rattle.faim_model.specs.Steps.{HostStep}
-use Rattle.host_node.specs.declared.faults.HostFault.{HostFault}
-use Rattle.host_node.specs.declared.faults.HostFault.TheVariants.{SiteFault, LineFault, JournalFull, NoMemory}
-use Rattle.host_node.specs.Handling.{HandlesAll, HasRoom, HasStepped, IsBeyond, NodeAfter, StepCalls, StepSends}
+use Rattle.faim_model.specs.Turns.{adds_to}
+use Rattle.journaled_steps.specs.declared.faults.StepFault.{StepFault}
+use Rattle.journaled_steps.specs.declared.faults.StepFault.TheVariants.{SiteFault, LineFault, JournalFull, NoMemory}
+use Rattle.journaled_steps.specs.Node.{Node, IsLive}
+use Rattle.journaled_steps.specs.Steps.{HandlesAll, HasRoom, HasStepped, IsBeyond, NodeAfter, StepCalls, StepSends, entries_with, last_after}
 use Rattle.host_node.specs.HostList.{host_rules}
-use Rattle.host_node.specs.Node.{Node, IsLive}
 use Rattle.host_node.specs.Preparing.{bytes_sent}
-use Rattle.line_sessions.specs.declared.ends.SessionEnd.TheVariants as ends
+use Rattle.host_node.specs.Stepping.{as_step}
 use Rattle.line_sessions.specs.Plays.{Plays, PlaysOut, all_after}
 use Rattle.line_sessions.proofs.Joined.{after_on, plays_on, plays_out_on}
 use Rattle.host_session.specs.Ending.{AtRest, EndsSite, IsDone, IsFull, IsShort}
@@ -24,26 +26,26 @@ use Rattle.host_session.specs.Ends.{host_end}
 use Rattle.host_session.specs.Going.{GoesOn, IsReady, kept_of}
 use Rattle.host_session.specs.HostPart.{Event, Kept, KeptStands, events, host_part, kept_after, step_of}
 use Rattle.host_session.specs.HostPart.Event.{Resumed, Came}
-use Rattle.host_session.specs.Serving.{Serves, ServesAll}
+use Rattle.host_session.specs.Serving.{ServesAll}
 use Rattle.host_session.proofs.OneEvent.{HasGrown, sent_alone, step_grown, step_moment}
 
 -- what handling a frame says of a site that tells
-pub record HandledAt (result : Result HostOutcome HostFault) (a : Arrival) (before after : Node) (old new : Told) : Type 0 where
-  pub calls : StepCalls (step_of (kept_of before) a).adds (bytes_sent (step_of (kept_of before) a)) before.tail result old new
+pub record HandledAt (result : Result HostOutcome StepFault) (a : Arrival) (before after : Node Config Entry) (old new : Told) : Type 0 where
+  pub calls : StepCalls host_rules (step_of (kept_of before) a).adds (bytes_sent (step_of (kept_of before) a)) before.tail result old new
   pub sends : StepSends (bytes_sent (step_of (kept_of before) a)) result old new
-  pub moments : HandlesAll result (step_of (kept_of before) a) before after old new
+  pub moments : HandlesAll host_rules result (as_step (step_of (kept_of before) a)) before after old new
 
-pub said_at : (result : Result HostOutcome HostFault) (a : Arrival) (before after : Node) (old new : Option Told)
-    → Goes old new (StepCalls (step_of (kept_of before) a).adds (bytes_sent (step_of (kept_of before) a)) before.tail result)
+pub said_at : (result : Result HostOutcome StepFault) (a : Arrival) (before after : Node Config Entry) (old new : Option Told)
+    → Goes old new (StepCalls host_rules (step_of (kept_of before) a).adds (bytes_sent (step_of (kept_of before) a)) before.tail result)
     → Goes old new (StepSends (bytes_sent (step_of (kept_of before) a)) result)
-    → Goes old new (HandlesAll result (step_of (kept_of before) a) before after)
+    → Goes old new (HandlesAll host_rules result (as_step (step_of (kept_of before) a)) before after)
     → Goes old new (HandledAt result a before after)
 said_at result a before after None new calls sends moments = tt
 said_at result a before after (Some x) None calls sends moments = absurd calls
 said_at result a before after (Some x) (Some y) calls sends moments = record { calls = calls; sends = sends; moments = moments }
 
 -- a live node's site is at rest
-abbrev pub at_rest : (node : Node) (kept : Kept) (told : Told) → IsLive node told → kept_of node ≡ kept → AtRest kept told
+abbrev pub at_rest : (node : Node Config Entry) (kept : Kept) (told : Told) → IsLive host_rules node told → kept_of node ≡ kept → AtRest kept told
 at_rest node kept told live same =
     let s = live.ready.stands in
     record {
@@ -56,15 +58,26 @@ at_rest node kept told live same =
     }
 
 -- no call was made
-unmoved_full : (adds : Option Entry) (frames : List (List ℕ)) (tail t n : ℕ) (old new : Told) → StepCalls {T = HostOutcome} adds frames tail (Err (JournalFull t n)) old new → new ≡ old
+unmoved_full : (adds : Option Entry) (frames : List (List ℕ)) (tail t n : ℕ) (old new : Told) → StepCalls {T = HostOutcome} host_rules adds frames tail (Err (JournalFull t n)) old new → new ≡ old
 unmoved_full None frames tail t n old new calls = calls
 unmoved_full (Some x) frames tail t n old new calls = calls
 
-unmoved_short : (adds : Option Entry) (frames : List (List ℕ)) (tail : ℕ) (old new : Told) → StepCalls {T = HostOutcome} adds frames tail (Err NoMemory) old new → new ≡ old
+unmoved_short : (adds : Option Entry) (frames : List (List ℕ)) (tail : ℕ) (old new : Told) → StepCalls {T = HostOutcome} host_rules adds frames tail (Err NoMemory) old new → new ≡ old
 unmoved_short None frames tail old new calls = calls
 unmoved_short (Some x) frames tail old new calls = calls
 
-module _ (arrivals : List Arrival) (a : Arrival) (before after : Node) where
+-- what is kept with what a step adds, as a node says it and as the model does
+abbrev stepped : Kept → Option Entry → Kept
+stepped kept adds = record { config = kept.config; entries = entries_with adds kept.entries; recent = last_after kept.recent adds }
+
+abbrev kept_with : Kept → Option Entry → Kept
+kept_with kept adds = record { config = kept.config; entries = adds_to adds kept.entries; recent = recent_with kept.recent adds }
+
+same_kept : (kept : Kept) (adds : Option Entry) → stepped kept adds ≡ kept_with kept adds
+same_kept kept None = refl
+same_kept kept (Some x) = refl
+
+module _ (arrivals : List Arrival) (a : Arrival) (before after : Node Config Entry) where
   abbrev step : HostStep
   step = step_of (kept_of before) a
 
@@ -75,14 +88,10 @@ module _ (arrivals : List Arrival) (a : Arrival) (before after : Node) where
   events_on = ap (λ (l : List Event). Resumed ∷ l) (sym (map-append Came arrivals (a ∷ [])))
 
   -- what a node keeps that went on
-  kept_stepped : HasStepped step before after → kept_of after ≡ kept_after (kept_of before) (Came a)
-  kept_stepped h k = record {
-    config = (h.state k).config;
-    entries = (h.state k).entries;
-    recent = h.last k;
-  }
+  kept_stepped : HasStepped host_rules (as_step step) before after → kept_of after ≡ kept_after (kept_of before) (Came a)
+  kept_stepped h = (λ k. record { config = (h.list k).opening; entries = (h.list k).entries; recent = h.last k }) ∙ same_kept (kept_of before) step.adds
 
-  module _ (result : Result HostOutcome HostFault) (start mid new : Told) (g : GoesOn arrivals before start mid) (h : HandledAt result a before after mid new) where
+  module _ (result : Result HostOutcome StepFault) (start mid new : Told) (g : GoesOn arrivals before start mid) (h : HandledAt result a before after mid new) where
     grown : HasGrown mid new
     grown = step_grown step.adds (bytes_sent step) before.tail result mid new h.calls
 
@@ -105,7 +114,7 @@ module _ (arrivals : List Arrival) (a : Arrival) (before after : Node) where
           subst (λ (l : List Event). Plays host_part kept l start new) events_on
           (plays_on host_part kept (events arrivals) (Came a ∷ []) start mid new ready.plays (subst (λ (k : Kept). Plays host_part k (Came a ∷ []) mid new) ready.same plays_one))
 
-      same_more : HasStepped step before after → kept_of after ≡ all_after host_part kept (events more)
+      same_more : HasStepped host_rules (as_step step) before after → kept_of after ≡ all_after host_part kept (events more)
       same_more stepped =
           kept_stepped stepped
           ∙ ap (λ (k : Kept). kept_after k (Came a)) ready.same
@@ -116,15 +125,15 @@ module _ (arrivals : List Arrival) (a : Arrival) (before after : Node) where
       abbrev done_before : IsDone kept (events arrivals) start mid
       done_before = record { plays = ready.plays; rest = at_rest before now mid ready.live ready.same }
 
-      full_before : (t n : ℕ) → IsBeyond step.adds before.tail t n → IsFull kept more t n start mid
+      full_before : (t n : ℕ) → IsBeyond host_rules step.adds before.tail t n → IsFull kept more t n start mid
       full_before t n beyond = record {
         before = arrivals;
         last = a;
         are = refl;
         done = done_before;
         beyond =
-            subst (λ (k : Kept). IsBeyond (step_of k a).adds (tail_of ready.live.ready.stands.payloads) t n) ready.same
-            (subst (λ (place : ℕ). IsBeyond step.adds place t n) ready.live.ready.place beyond);
+            subst (λ (k : Kept). IsBeyond host_rules (step_of k a).adds (tail_of ready.live.ready.stands.payloads) t n) ready.same
+            (subst (λ (place : ℕ). IsBeyond host_rules step.adds place t n) ready.live.ready.place beyond);
       }
 
       short_before : IsShort kept more start mid
@@ -137,7 +146,7 @@ module _ (arrivals : List Arrival) (a : Arrival) (before after : Node) where
       }
 
   -- the frame is handled
-  pub went_on : (o : HostOutcome) (start mid new : Told) → NodeAfter (Ok o) step before after → GoesOn arrivals before start mid → HandledAt (Ok o) a before after mid new → GoesOn more after start new
+  pub went_on : (o : HostOutcome) (start mid new : Told) → NodeAfter host_rules (Ok o) (as_step step) before after → GoesOn arrivals before start mid → HandledAt (Ok o) a before after mid new → GoesOn more after start new
   went_on o start mid new stepped g h = record {
     counted = counted_on start mid new g.counted (grown (Ok o) start mid new g h).counted;
     ready = λ kept pending stands.
@@ -152,7 +161,7 @@ module _ (arrivals : List Arrival) (a : Arrival) (before after : Node) where
         };
   }
 
-  ends_site : (fault : HostFault) (start mid new : Told) → NodeAfter (Err fault) step before after → HasRoom {T = HostOutcome} (Err fault) step.adds before.tail
+  ends_site : (fault : StepFault) (start mid new : Told) → NodeAfter host_rules (Err fault) (as_step step) before after → HasRoom {T = HostOutcome} host_rules (Err fault) step.adds before.tail
       → (g : GoesOn arrivals before start mid) → (h : HandledAt (Err fault) a before after mid new)
       → (kept : Kept) (pending : NothingPending start.log) (stands : KeptStands (reads start.log) kept) → EndsSite (Err (host_end fault)) kept more start new
   ends_site SiteFault start mid new stepped room g h kept pending stands = tt
@@ -166,7 +175,7 @@ module _ (arrivals : List Arrival) (a : Arrival) (before after : Node) where
       (short_before (Err NoMemory) start mid new g h kept pending stands)
 
   -- it isn't
-  pub broke_off : (fault : HostFault) (start mid new : Told) → NodeAfter (Err fault) step before after → HasRoom {T = HostOutcome} (Err fault) step.adds before.tail
+  pub broke_off : (fault : StepFault) (start mid new : Told) → NodeAfter host_rules (Err fault) (as_step step) before after → HasRoom {T = HostOutcome} host_rules (Err fault) step.adds before.tail
       → GoesOn arrivals before start mid → HandledAt (Err fault) a before after mid new → ServesAll (Err (host_end fault)) more start new
   broke_off fault start mid new stepped room g h kept pending stands = record {
     plays = plays_more (Err fault) start mid new g h kept pending stands;

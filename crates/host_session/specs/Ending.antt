@@ -11,12 +11,12 @@ use Rattle.link_frames.specs.declared.fault.FrameFault.{FrameFault}
 use Rattle.link_frames.specs.declared.fault.FrameFault.TheVariants.{CutFrame}
 use Rattle.framed_input.specs.Limits.{greatest_input}
 use Rattle.journaled_list.specs.Payloads.{IsListDamage}
+use Rattle.journaled_steps.specs.Steps.{IsBeyond}
 use Rattle.faim_model.specs.Sessions.{Arrival}
-use Rattle.host_node.specs.Handling.{IsBeyond}
 use Rattle.host_node.specs.HostList.{host_rules}
 use Rattle.line_sessions.specs.declared.ends.SessionEnd.{SessionEnd}
 use Rattle.line_sessions.specs.declared.ends.SessionEnd.TheVariants as ends
-use Rattle.line_sessions.specs.Plays.{Plays, PlaysOut, all_after}
+use Rattle.line_sessions.specs.Plays.{PlaysOut, all_after}
 use Rattle.host_session.specs.HostPart.{Event, Kept, KeptStands, events, host_part, step_of}
 use Rattle.host_session.specs.Views.{frames_of}
 
@@ -66,7 +66,7 @@ pub record IsFull (kept : Kept) (arrivals : List Arrival) (tail need : ℕ) (old
   pub last : Arrival
   pub are : arrivals ≡ before ++ last ∷ []
   pub done : IsDone kept (events before) old new
-  pub beyond : IsBeyond (step_of (all_after host_part kept (events before)) last).adds (tail_of done.rest.stands.payloads) tail need
+  pub beyond : IsBeyond host_rules (step_of (all_after host_part kept (events before)) last).adds (tail_of done.rest.stands.payloads) tail need
 
 -- all events are done, or all but the last
 pub record IsShort (kept : Kept) (arrivals : List Arrival) (old new : Told) : Type 0 where

@@ -3,8 +3,8 @@ use Rattle.journaled_list.specs.declared.faults.OpenFault.{OpenFault}
 use Rattle.journaled_list.specs.declared.faults.OpenFault.TheVariants as opens
 use Rattle.framed_input.specs.declared.ends.InputEnd.{InputEnd}
 use Rattle.framed_input.specs.declared.ends.InputEnd.TheVariants as inputs
-use Rattle.host_node.specs.declared.faults.HostFault.{HostFault}
-use Rattle.host_node.specs.declared.faults.HostFault.TheVariants as hosts
+use Rattle.journaled_steps.specs.declared.faults.StepFault.{StepFault}
+use Rattle.journaled_steps.specs.declared.faults.StepFault.TheVariants as hosts
 use Rattle.line_sessions.specs.declared.ends.SessionEnd.{SessionEnd}
 use Rattle.line_sessions.specs.declared.ends.SessionEnd.TheVariants as ends
 
@@ -23,7 +23,7 @@ input_end (inputs.Frame fault) = ends.Frame fault
 input_end inputs.TooLong = ends.TooLong
 
 -- a frame isn't handled
-abbrev pub host_end : HostFault → SessionEnd
+abbrev pub host_end : StepFault → SessionEnd
 host_end hosts.SiteFault = ends.DiskFault
 host_end hosts.LineFault = ends.LineFault
 host_end (hosts.JournalFull tail need) = ends.JournalFull tail need

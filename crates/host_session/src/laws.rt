@@ -9,11 +9,11 @@ ghost use Rattle.host_ledger.specs.declared.entries.Entry.{Entry};
 ghost use Rattle.faim_model.specs.Sending.{frames_of};
 ghost use Rattle.faim_model.specs.Sessions.{Arrival, IsArrival, entries_after, recent_after, session_frames};
 ghost use Rattle.journaled_list.specs.Making.{Inits};
+ghost use Rattle.journaled_steps.specs.Node.{Node, found_of};
 ghost use Rattle.line_sessions.specs.declared.ends.SessionEnd.{SessionEnd};
 ghost use Rattle.line_sessions.specs.declared.ends.SessionEnd.TheVariants.{DiskFault, JournalFull, LineFault, NoMemory};
 ghost use Rattle.line_sessions.specs.Plays.{IsMoment, Plays, PlaysOut, all_after, all_sent};
 ghost use Rattle.host_node.specs.HostList.{host_rules};
-ghost use Rattle.host_node.specs.Node.{Node, found_of};
 ghost use Rattle.host_session.specs.Ending.{AtRest, EndsSite, IsDone};
 ghost use Rattle.host_session.specs.HostPart.{Event, Kept, KeptStands, events, host_part};
 ghost use Rattle.host_session.specs.Promises.{AllCovered, IsGrownFrom, IsOut, IsSafe, IsSound, NoneMissed, all_frames, first_sent};
@@ -73,8 +73,8 @@ pub fn sessions_follow_one_another()
         → Plays host_part kept (done ++ events later) a c × EndsSite end (all_after host_part kept done) later b c }
     ensures both { (kept : Kept) (first later : List Event) (a b c : Told)
         → IsDone kept first a b → IsDone (all_after host_part kept first) later b c → IsDone kept (first ++ later) a c }
-    ensures made { (opening : List ℕ) (config : Config) (node : Node) (old new : Told)
-        → Inits host_rules found_of opening (Ok node) old new → node.state ≡ record { config = config; entries = [] } → node.last ≡ 0
+    ensures made { (opening : List ℕ) (config : Config) (node : Node Config Entry) (old new : Told)
+        → Inits host_rules found_of opening (Ok node) old new → node.list ≡ record { opening = config; entries = [] } → node.last ≡ 0
         → AtRest (record { config = config; entries = []; recent = 0 }) new × (sent new.log ≡ sent old.log) }
     ensures present { (kept : Kept) (taken : List Event) (a b : Told)
         → Plays host_part kept taken a b → IsMoment host_part kept taken (sent a.log) (reads b.log) (sent b.log) }

@@ -1,177 +1,75 @@
-use Rattle.std.proofs.Common.{◌≡◌, ◌∙◌, ◌-◌, ◌<◌, ◌+◌, List, ℕ, length, refl, sym, ap, subst, Ok, Err, arith}
-use Rattle.site_core.proofs.Runs.{goes_as, goes_nowhere}
-use Rattle.torn_journal.specs.Journal.{payload_of}
-use Rattle.torn_journal.specs.Limits.{greatest_tail}
-use Rattle.store_forward.specs.declared.faults.ForwardFault.{ForwardFault}
-use Rattle.store_forward.specs.declared.faults.ForwardFault.TheVariants as forwards
-use Rattle.store_forward.specs.Storing.{IfStored, StoreCalls, StoreReason, StoreSends}
+use Rattle.std.proofs.Common.{◌≡◌, ◌∙◌, length, refl, ap, Some}
+use Rattle.site_core.proofs.Runs.{goes_nowhere}
+use Rattle.host_ledger.specs.declared.config.Config.{Config}
 use Rattle.host_ledger.specs.declared.entries.Entry.{Entry}
-use Rattle.entry_codec.specs.Spelling.{entry_bytes}
-use Rattle.host_core.specs.State.{State}
-use Rattle.journaled_list.specs.Storing.{StoresAll}
-use Rattle.host_node.specs.Handling.{record_for}
-use Rattle.host_node.specs.declared.host_list.HostList.{HostList}
+use Rattle.faim_model.specs.declared.decisions.HostOutcome.{HostOutcome}
+use Rattle.journaled_list.specs.Rules.{Listed}
+use Rattle.journaled_steps.specs.declared.faults.StepFault.TheVariants.{NoMemory}
+use Rattle.journaled_steps.specs.Steps.{record_for, stores_and_sends}
+use Rattle.journaled_steps.proofs.NothingDone.{no_room, quiet_calls, quiet_moments, quiet_node, quiet_reason, quiet_sends, room_is_quiet, unmoved}
 use Rattle.host_node.specs.HostList.{host_rules}
-use Rattle.host_node.proofs.Secured.{cut_back, cut_state, failed, full_fault, full_room, grown_by, has_room, placed, stored_newest, stored_calls}
 use Rattle.host_node.proofs.securing.secure.Goals as goal
 
-pub returns-in-Ok-store-clause-calls : goal.returns-in-Ok-store-clause-calls
-returns-in-Ok-store-clause-calls g c = λ x older newest.
-    let is : c.as_slice.result.now ≡ record_for x = c.as_slice.ensures.value ∙ c.in-Ok.ensures.record x older newest.is in
-    goes_as _ _ (g.S.Site.told c.args.site.now) (g.S.Site.told c.store.new.site)
-    (λ a b p. stored_calls c.as_slice.result.now x c.args.kept.now.journal c.args.outbox.now (Ok c.in-Ok-store.field-0) a b is p)
-    c.in-Ok-store.ensures.calls
+pub returns-in-Ok-room_for-clause-node : goal.returns-in-Ok-room_for-clause-node
+returns-in-Ok-room_for-clause-node g c = λ before x newest.
+    let is : c.deref-in-Ok-room_for.result.now ≡ record_for host_rules x = c.deref-in-Ok-room_for.ensures.value ∙ c.in-Ok.ensures.record x before.entries (ap (λ (l : Listed Config Entry). l.entries) newest.is) in
+    c.store_step.ensures.node before x newest.is is
 
-pub returns-in-Ok-store-clause-moments : goal.returns-in-Ok-store-clause-moments
-returns-in-Ok-store-clause-moments g c = λ x older newest.
-    let is : payload_of c.as_slice.result.now ≡ entry_bytes x = ap payload_of c.as_slice.ensures.value ∙ c.in-Ok.ensures.payload x older newest.is in
-    goes_as _ _ (g.S.Site.told c.args.site.now) (g.S.Site.told c.store.new.site)
-    (λ a b p. stored_newest c.args.kept.now.list.state x older (payload_of c.as_slice.result.now) c.args.kept.now.last c.args.kept.now.journal c.store.new.self.journal c.args.outbox.now (Ok c.in-Ok-store.field-0) a b newest is p)
-    c.in-Ok-store.ensures.moments
+pub returns-in-Ok-room_for-clause-room : goal.returns-in-Ok-room_for-clause-room
+returns-in-Ok-room_for-clause-room g c = λ before x newest.
+    let is : c.deref-in-Ok-room_for.result.now ≡ record_for host_rules x = c.deref-in-Ok-room_for.ensures.value ∙ c.in-Ok.ensures.record x before.entries (ap (λ (l : Listed Config Entry). l.entries) newest.is) in
+    c.store_step.ensures.room x is
 
-pub returns-in-Err-SiteFault-clause-calls : goal.returns-in-Err-SiteFault-clause-calls
-returns-in-Err-SiteFault-clause-calls g c = λ x older newest.
-    let is : c.as_slice.result.now ≡ record_for x = c.as_slice.ensures.value ∙ c.in-Ok.ensures.record x older newest.is in
-    goes_as _ _ (g.S.Site.told c.args.site.now) (g.S.Site.told c.store.new.site)
-    (λ a b p. stored_calls c.as_slice.result.now x c.args.kept.now.journal c.args.outbox.now (Err forwards.SiteFault) a b is
-    (subst (λ (f : ForwardFault). StoreCalls c.args.kept.now.journal c.as_slice.result.now c.args.outbox.now (Err f) a b) c.in-Err-SiteFault.field-0-is p))
-    c.in-Err-SiteFault.ensures.calls
+pub returns-in-Ok-room_for-clause-calls : goal.returns-in-Ok-room_for-clause-calls
+returns-in-Ok-room_for-clause-calls g c = λ before x newest.
+    let is : c.deref-in-Ok-room_for.result.now ≡ record_for host_rules x = c.deref-in-Ok-room_for.ensures.value ∙ c.in-Ok.ensures.record x before.entries (ap (λ (l : Listed Config Entry). l.entries) newest.is) in
+    c.store_step.ensures.calls x is
 
-pub returns-in-Err-SiteFault-clause-moments : goal.returns-in-Err-SiteFault-clause-moments
-returns-in-Err-SiteFault-clause-moments g c = λ x older newest.
-    let is : payload_of c.as_slice.result.now ≡ entry_bytes x = ap payload_of c.as_slice.ensures.value ∙ c.in-Ok.ensures.payload x older newest.is in
-    goes_as _ _ (g.S.Site.told c.args.site.now) (g.S.Site.told c.store.new.site)
-    (λ a b p. stored_newest c.args.kept.now.list.state x older (payload_of c.as_slice.result.now) c.args.kept.now.last c.args.kept.now.journal c.store.new.self.journal c.args.outbox.now (Err forwards.SiteFault) a b newest is
-    (subst (λ (f : ForwardFault). StoresAll host_rules (Err f) c.args.kept.now.journal c.store.new.self.journal (payload_of c.as_slice.result.now) c.args.outbox.now a b) c.in-Err-SiteFault.field-0-is p))
-    c.in-Err-SiteFault.ensures.moments
-
-pub returns-in-Err-LineFault-clause-calls : goal.returns-in-Err-LineFault-clause-calls
-returns-in-Err-LineFault-clause-calls g c = λ x older newest.
-    let is : c.as_slice.result.now ≡ record_for x = c.as_slice.ensures.value ∙ c.in-Ok.ensures.record x older newest.is in
-    goes_as _ _ (g.S.Site.told c.args.site.now) (g.S.Site.told c.store.new.site)
-    (λ a b p. stored_calls c.as_slice.result.now x c.args.kept.now.journal c.args.outbox.now (Err forwards.LineFault) a b is
-    (subst (λ (f : ForwardFault). StoreCalls c.args.kept.now.journal c.as_slice.result.now c.args.outbox.now (Err f) a b) c.in-Err-LineFault.field-0-is p))
-    c.in-Err-LineFault.ensures.calls
-
-pub returns-in-Err-LineFault-clause-moments : goal.returns-in-Err-LineFault-clause-moments
-returns-in-Err-LineFault-clause-moments g c = λ x older newest.
-    let is : payload_of c.as_slice.result.now ≡ entry_bytes x = ap payload_of c.as_slice.ensures.value ∙ c.in-Ok.ensures.payload x older newest.is in
-    goes_as _ _ (g.S.Site.told c.args.site.now) (g.S.Site.told c.store.new.site)
-    (λ a b p. stored_newest c.args.kept.now.list.state x older (payload_of c.as_slice.result.now) c.args.kept.now.last c.args.kept.now.journal c.store.new.self.journal c.args.outbox.now (Err forwards.LineFault) a b newest is
-    (subst (λ (f : ForwardFault). StoresAll host_rules (Err f) c.args.kept.now.journal c.store.new.self.journal (payload_of c.as_slice.result.now) c.args.outbox.now a b) c.in-Err-LineFault.field-0-is p))
-    c.in-Err-LineFault.ensures.moments
+pub returns-in-Ok-room_for-clause-moments : goal.returns-in-Ok-room_for-clause-moments
+returns-in-Ok-room_for-clause-moments g c = λ before x newest.
+    let is : c.deref-in-Ok-room_for.result.now ≡ record_for host_rules x = c.deref-in-Ok-room_for.ensures.value ∙ c.in-Ok.ensures.record x before.entries (ap (λ (l : Listed Config Entry). l.entries) newest.is) in
+    c.store_step.ensures.moments before x newest.is newest.follows is
 
 pub returns-in-Ok-clause-node : goal.returns-in-Ok-clause-node
-returns-in-Ok-clause-node g c = λ x older newest.
-    placed _ _ _ _ _ _
-    (cut_state c.args.kept.now.list.state c.store.new.self.list.state c.cut.new.self older x (c.len-last.result - 1) (ap (λ (l : HostList). l.state) c.in-Err-JournalFull.ensures.list) newest.is (ap (λ n. n - 1) c.len-last.ensures) c.cut.ensures)
-    (subst (λ (f : ForwardFault). IfStored (Err f) (c.store.new.self.last ≡ 1) (c.store.new.self.last ≡ c.args.kept.now.last)) c.in-Err-JournalFull.field-0-is c.in-Err-JournalFull.ensures.last)
-    (subst (λ (f : ForwardFault). IfStored (Err f) (c.store.new.self.journal ≡ c.args.kept.now.journal + length c.as_slice.result.now) (c.store.new.self.journal ≡ c.args.kept.now.journal)) c.in-Err-JournalFull.field-0-is c.in-Err-JournalFull.ensures.tail)
+returns-in-Ok-clause-node g c = λ before x newest.
+    let fault = c.in-Err-room_for.fault in
+    let quiet = room_is_quiet fault c.args.kept.now.journal (length c.deref.result.now) c.in-Err-room_for.ensures in
+    quiet_node host_rules fault quiet (stores_and_sends x c.args.outbox.now c.args.outcome) _ _ (unmoved fault quiet _ _ _ _ _ _ (c.take_back.ensures before x newest.is) refl refl)
 
 pub returns-in-Ok-clause-room : goal.returns-in-Ok-clause-room
-returns-in-Ok-clause-room g c = λ x older newest.
-    let is : c.as_slice.result.now ≡ record_for x = c.as_slice.ensures.value ∙ c.in-Ok.ensures.record x older newest.is in
-    let e = c.in-Err-JournalFull in
-    let told = e.ensures.full_only e.tail e.need (ap failed e.field-0-is) in
-    let full : greatest_tail < c.args.kept.now.journal + length c.as_slice.result.now = e.ensures.full.1 (full_fault e.tail e.need c.args.kept.now.journal e.field-0 (length c.as_slice.result.now) e.field-0-is told) in
-    full_room c.as_slice.result.now x c.args.kept.now.journal e.tail e.need is told full
+returns-in-Ok-clause-room g c = λ before x newest.
+    let is : c.deref.result.now ≡ record_for host_rules x = c.deref.ensures.value ∙ c.in-Ok.ensures.record x before.entries (ap (λ (l : Listed Config Entry). l.entries) newest.is) in
+    no_room HostOutcome host_rules c.in-Err-room_for.fault x c.deref.result.now c.args.kept.now.journal is c.in-Err-room_for.ensures
 
 pub returns-in-Ok-clause-calls : goal.returns-in-Ok-clause-calls
-returns-in-Ok-clause-calls g c = λ x older newest.
-    goes_as _ _ (g.S.Site.told c.args.site.now) (g.S.Site.told c.store.new.site)
-    (λ a b p. subst (λ (f : ForwardFault). StoreCalls c.args.kept.now.journal c.as_slice.result.now c.args.outbox.now (Err f) a b) c.in-Err-JournalFull.field-0-is p)
-    c.in-Err-JournalFull.ensures.calls
-
-pub returns-in-Ok-clause-moments : goal.returns-in-Ok-clause-moments
-returns-in-Ok-clause-moments g c = λ x older newest.
-    let is : payload_of c.as_slice.result.now ≡ entry_bytes x = ap payload_of c.as_slice.ensures.value ∙ c.in-Ok.ensures.payload x older newest.is in
-    goes_as _ _ (g.S.Site.told c.args.site.now) (g.S.Site.told c.store.new.site)
-    (λ a b p. stored_newest c.args.kept.now.list.state x older (payload_of c.as_slice.result.now) c.args.kept.now.last c.args.kept.now.journal c.store.new.self.journal c.args.outbox.now (Err (forwards.JournalFull c.in-Err-JournalFull.tail c.in-Err-JournalFull.need)) a b newest is
-    (subst (λ (f : ForwardFault). StoresAll host_rules (Err f) c.args.kept.now.journal c.store.new.self.journal (payload_of c.as_slice.result.now) c.args.outbox.now a b) c.in-Err-JournalFull.field-0-is p))
-    c.in-Err-JournalFull.ensures.moments
-
-pub returns-clause-node : goal.returns-clause-node
-returns-clause-node g c = λ x older newest.
-    placed _ _ _ _ _ _
-    (c.cut-in-Err.ensures
-    ∙ ap (λ (l : List Entry). record { config = c.args.kept.now.list.state.config; entries = l }) (cut_back c.args.kept.now.list.state.entries older x (c.len-last.result - 1) newest.is (ap (λ n. n - 1) c.len-last.ensures)))
-    refl refl
-
-pub returns-clause-calls : goal.returns-clause-calls
-returns-clause-calls g c = λ x older newest. goes_nowhere _ (g.S.Site.told c.args.site.now) (λ a. refl)
-
-pub returns-clause-moments : goal.returns-clause-moments
-returns-clause-moments g c = λ x older newest. goes_nowhere _ (g.S.Site.told c.args.site.now) (λ a ready. refl)
-
-pub returns-in-Ok-store-clause-node : goal.returns-in-Ok-store-clause-node
-returns-in-Ok-store-clause-node g c = λ x older newest.
-    let is : c.as_slice.result.now ≡ record_for x = c.as_slice.ensures.value ∙ c.in-Ok.ensures.record x older newest.is in
-    placed _ _ _ _ _ _
-    (ap (λ (l : HostList). l.state) c.in-Ok-store.ensures.list)
-    c.in-Ok-store.ensures.last
-    (grown_by c.as_slice.result.now x c.args.kept.now.journal c.store.new.self.journal is c.in-Ok-store.ensures.tail)
-
-pub returns-in-Ok-store-clause-room : goal.returns-in-Ok-store-clause-room
-returns-in-Ok-store-clause-room g c = λ x older newest.
-    let is : c.as_slice.result.now ≡ record_for x = c.as_slice.ensures.value ∙ c.in-Ok.ensures.record x older newest.is in
-    has_room c.as_slice.result.now x c.args.kept.now.journal is (λ full. absurd (let wrong = c.in-Ok-store.ensures.full.0 full in cc))
-
-pub returns-in-Err-SiteFault-clause-room : goal.returns-in-Err-SiteFault-clause-room
-returns-in-Err-SiteFault-clause-room g c = λ x older newest.
-    let is : c.as_slice.result.now ≡ record_for x = c.as_slice.ensures.value ∙ c.in-Ok.ensures.record x older newest.is in
-    has_room c.as_slice.result.now x c.args.kept.now.journal is (λ full. absurd (let wrong : failed forwards.SiteFault ≡ failed (forwards.JournalFull c.args.kept.now.journal (length c.as_slice.result.now)) = ap failed (sym c.in-Err-SiteFault.field-0-is) ∙ c.in-Err-SiteFault.ensures.full.0 full in cc))
-
-pub returns-in-Err-LineFault-clause-node : goal.returns-in-Err-LineFault-clause-node
-returns-in-Err-LineFault-clause-node g c = λ x older newest.
-    let is : c.as_slice.result.now ≡ record_for x = c.as_slice.ensures.value ∙ c.in-Ok.ensures.record x older newest.is in
-    placed _ _ _ _ _ _
-    (ap (λ (l : HostList). l.state) c.in-Err-LineFault.ensures.list)
-    (subst (λ (f : ForwardFault). IfStored (Err f) (c.store.new.self.last ≡ 1) (c.store.new.self.last ≡ c.args.kept.now.last)) c.in-Err-LineFault.field-0-is c.in-Err-LineFault.ensures.last)
-    (grown_by c.as_slice.result.now x c.args.kept.now.journal c.store.new.self.journal is (subst (λ (f : ForwardFault). IfStored (Err f) (c.store.new.self.journal ≡ c.args.kept.now.journal + length c.as_slice.result.now) (c.store.new.self.journal ≡ c.args.kept.now.journal)) c.in-Err-LineFault.field-0-is c.in-Err-LineFault.ensures.tail))
-
-pub returns-in-Err-LineFault-clause-room : goal.returns-in-Err-LineFault-clause-room
-returns-in-Err-LineFault-clause-room g c = λ x older newest.
-    let is : c.as_slice.result.now ≡ record_for x = c.as_slice.ensures.value ∙ c.in-Ok.ensures.record x older newest.is in
-    has_room c.as_slice.result.now x c.args.kept.now.journal is (λ full. absurd (let wrong : failed forwards.LineFault ≡ failed (forwards.JournalFull c.args.kept.now.journal (length c.as_slice.result.now)) = ap failed (sym c.in-Err-LineFault.field-0-is) ∙ c.in-Err-LineFault.ensures.full.0 full in cc))
-
-pub returns-in-Err-SiteFault-clause-sent : goal.returns-in-Err-SiteFault-clause-sent
-returns-in-Err-SiteFault-clause-sent g c =
-    goes_as _ _ (g.S.Site.told c.args.site.now) (g.S.Site.told c.store.new.site)
-    (λ a b p. subst (λ (f : ForwardFault). StoreSends c.args.outbox.now (Err f) a b) c.in-Err-SiteFault.field-0-is p)
-    c.in-Err-SiteFault.ensures.sent
-
-pub returns-in-Err-SiteFault-clause-reason : goal.returns-in-Err-SiteFault-clause-reason
-returns-in-Err-SiteFault-clause-reason g c =
-    goes_as _ _ (g.S.Site.told c.args.site.now) (g.S.Site.told c.store.new.site)
-    (λ a b p. subst (λ (f : ForwardFault). StoreReason (Err f) a b) c.in-Err-SiteFault.field-0-is p)
-    c.in-Err-SiteFault.ensures.reason
-
-pub returns-in-Err-LineFault-clause-sent : goal.returns-in-Err-LineFault-clause-sent
-returns-in-Err-LineFault-clause-sent g c =
-    goes_as _ _ (g.S.Site.told c.args.site.now) (g.S.Site.told c.store.new.site)
-    (λ a b p. subst (λ (f : ForwardFault). StoreSends c.args.outbox.now (Err f) a b) c.in-Err-LineFault.field-0-is p)
-    c.in-Err-LineFault.ensures.sent
-
-pub returns-in-Err-LineFault-clause-reason : goal.returns-in-Err-LineFault-clause-reason
-returns-in-Err-LineFault-clause-reason g c =
-    goes_as _ _ (g.S.Site.told c.args.site.now) (g.S.Site.told c.store.new.site)
-    (λ a b p. subst (λ (f : ForwardFault). StoreReason (Err f) a b) c.in-Err-LineFault.field-0-is p)
-    c.in-Err-LineFault.ensures.reason
+returns-in-Ok-clause-calls g c = λ before x newest.
+    let fault = c.in-Err-room_for.fault in
+    let quiet = room_is_quiet fault c.args.kept.now.journal (length c.deref.result.now) c.in-Err-room_for.ensures in
+    goes_nowhere _ (g.S.Site.told c.args.site.now) (λ a. quiet_calls HostOutcome host_rules fault quiet (Some x) c.args.outbox.now c.args.kept.now.journal a)
 
 pub returns-in-Ok-clause-sent : goal.returns-in-Ok-clause-sent
 returns-in-Ok-clause-sent g c =
-    goes_as _ _ (g.S.Site.told c.args.site.now) (g.S.Site.told c.store.new.site)
-    (λ a b p. subst (λ (f : ForwardFault). StoreSends c.args.outbox.now (Err f) a b) c.in-Err-JournalFull.field-0-is p)
-    c.in-Err-JournalFull.ensures.sent
+    let fault = c.in-Err-room_for.fault in
+    let quiet = room_is_quiet fault c.args.kept.now.journal (length c.deref.result.now) c.in-Err-room_for.ensures in
+    goes_nowhere _ (g.S.Site.told c.args.site.now) (λ a. quiet_sends HostOutcome fault quiet c.args.outbox.now a)
+
+pub returns-in-Ok-clause-moments : goal.returns-in-Ok-clause-moments
+returns-in-Ok-clause-moments g c = λ before x newest.
+    let fault = c.in-Err-room_for.fault in
+    let quiet = room_is_quiet fault c.args.kept.now.journal (length c.deref.result.now) c.in-Err-room_for.ensures in
+    goes_nowhere _ (g.S.Site.told c.args.site.now)
+    (λ a. quiet_moments host_rules fault quiet (stores_and_sends x c.args.outbox.now c.args.outcome) _ _ a (unmoved fault quiet _ _ _ _ _ _ (c.take_back.ensures before x newest.is) refl refl))
 
 pub returns-in-Ok-clause-reason : goal.returns-in-Ok-clause-reason
 returns-in-Ok-clause-reason g c =
-    goes_as _ _ (g.S.Site.told c.args.site.now) (g.S.Site.told c.store.new.site)
-    (λ a b p. subst (λ (f : ForwardFault). StoreReason (Err f) a b) c.in-Err-JournalFull.field-0-is p)
-    c.in-Err-JournalFull.ensures.reason
+    let fault = c.in-Err-room_for.fault in
+    let quiet = room_is_quiet fault c.args.kept.now.journal (length c.deref.result.now) c.in-Err-room_for.ensures in
+    goes_nowhere _ (g.S.Site.told c.args.site.now) (λ a. quiet_reason HostOutcome fault quiet a)
 
-pub returns-clause-sent : goal.returns-clause-sent
-returns-clause-sent g c = goes_nowhere _ (g.S.Site.told c.args.site.now) (λ a. refl)
+pub returns-clause-node : goal.returns-clause-node
+returns-clause-node g c = λ before x newest. unmoved NoMemory tt _ _ _ _ _ _ (c.take_back-in-Err.ensures before x newest.is) refl refl
 
-pub returns-clause-reason : goal.returns-clause-reason
-returns-clause-reason g c = goes_nowhere _ (g.S.Site.told c.args.site.now) (λ a. tt)
+pub returns-clause-moments : goal.returns-clause-moments
+returns-clause-moments g c = λ before x newest.
+    goes_nowhere _ (g.S.Site.told c.args.site.now)
+    (λ a. quiet_moments host_rules NoMemory tt (stores_and_sends x c.args.outbox.now c.args.outcome) _ _ a (unmoved NoMemory tt _ _ _ _ _ _ (c.take_back-in-Err.ensures before x newest.is) refl refl))

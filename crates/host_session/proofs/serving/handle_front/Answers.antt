@@ -1,4 +1,4 @@
-use Rattle.std.proofs.Common.{◌≡◌, ℕ, List, ◌++◌, refl, sym, ◌∙◌, ap, subst, Ok, Err}
+use Rattle.std.proofs.Common.{ℕ, List, ◌++◌, refl, sym, ◌∙◌, ap, subst, Ok, Err}
 use Rattle.site_core.specs.Told.{Counted}
 use Rattle.site_core.proofs.Runs.{goes_as}
 use Rattle.faim_base.specs.Numbers.{IsMoment}

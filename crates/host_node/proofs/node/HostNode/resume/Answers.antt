@@ -3,8 +3,8 @@ use Rattle.site_core.proofs.Runs.{goes_as, goes_nowhere}
 use Rattle.journaled_list.specs.Loading.{found_in}
 use Rattle.host_node.specs.declared.host_list.HostList.{HostList}
 use Rattle.host_node.specs.HostList.{host_rules, listed, sent_again}
-use Rattle.host_node.specs.Node.{found_of}
-use Rattle.host_node.proofs.AsNodes.{resumed_as, failed_as, any_image, unopened_calls, untouched_calls, untouched_moments}
+use Rattle.journaled_steps.specs.Node.{found_of}
+use Rattle.journaled_steps.proofs.AsNodes.{resumed_as, failed_as, any_image, unopened_calls, untouched_calls, untouched_moments}
 use Rattle.host_node.proofs.node.HostNode.resume.Goals as goal
 
 pub returns-in-Err-clause-image : goal.returns-in-Err-clause-image

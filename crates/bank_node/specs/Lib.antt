@@ -1,0 +1,4 @@
+pub mod BankRules
+pub mod BankReadOnce
+pub mod Stepping
+pub mod Preparing

@@ -1,0 +1,6 @@
+mod Lengths
+mod CodeLemmas
+mod Texts
+mod Faults
+mod Founds
+mod Examples
