@@ -1,10 +1,10 @@
 // A run between a reader and a writer.
 ghost use Rattle.std.specs.Prelude.{◌≡◌, ◌↔◌, Some, IsNone, IfSome, IfOk, false, true};
 ghost use Rattle.faim_top.specs.declared.command.Command.{Command};
-ghost use Rattle.faim_top.specs.declared.command.Command.TheVariants.{Answer, HostInit};
+ghost use Rattle.faim_top.specs.declared.command.Command.TheVariants.{Answer};
 ghost use Rattle.faim_top.specs.declared.query.Query.{Query};
 ghost use Rattle.faim_top.specs.declared.status.Status.TheVariants as statuses;
-ghost use Rattle.faim_top.specs.Commands.{Carried, most_taken, uses_clock, uses_site};
+ghost use Rattle.faim_top.specs.Commands.{Carried, makes_journal, most_taken, uses_clock, uses_site};
 ghost use Rattle.faim_top.specs.Inits.{makes_no_call};
 ghost use Rattle.faim_top.specs.Promises.{KeepsPromises};
 ghost use Rattle.faim_top.specs.Seen.{LosesAtMost, seen};
@@ -47,7 +47,7 @@ pub fn run_between<R: Read, W: Write, S: Site, M: StopSite, C: Clock>(
     ensures site { uses_site (command_of (texts words.now)) ≡ false → site.new ≡ site.old }
     ensures stage { stage.new ≡ stage.old }
     ensures clock { uses_clock (command_of (texts words.now)) ≡ false → clock.new ≡ clock.old }
-    ensures quiet { command_of (texts words.now) ≡ Some HostInit → makes_no_call result.status ≡ true → site.new ≡ site.old }
+    ensures quiet { makes_journal (command_of (texts words.now)) ≡ true → makes_no_call result.status ≡ true → site.new ≡ site.old }
     ensures few { IfSome (command_of (texts words.now)) (λ command. LosesAtMost (most_taken command) (seen R.remaining reader result.reader)) }
     ensures stops { command_of (texts words.now) ≡ Some (Answer Query.Check) → TakesLittleBeyond (seen R.remaining reader result.reader) }
     ensures promises { command_of (texts words.now) ≡ Some (Answer Query.Replay) → result.status ≡ statuses.Done → IfSome (R.remaining reader) (λ text. IfOk (script_of text) KeepsPromises) }

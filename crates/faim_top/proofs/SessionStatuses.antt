@@ -38,6 +38,19 @@ pub never_write : (end : Result (Unit {0}) SessionEnd) (status : Status) → sta
 never_write (Ok done) status told is = cc
 never_write (Err end) status told is = end_write end (sym told ∙ is)
 
+-- a session whose end isn't that of a clock
+pub end_clock : (end : SessionEnd) → end ≢ ends.ClockFault → status_by end ≢ statuses.ClockFault
+end_clock ends.ReadFault timeless is = cc
+end_clock (ends.Frame fault) timeless is = cc
+end_clock ends.TooLong timeless is = cc
+end_clock ends.ClockFault timeless is = timeless refl
+end_clock ends.DiskFault timeless is = cc
+end_clock ends.LineFault timeless is = cc
+end_clock ends.NoJournal timeless is = cc
+end_clock (ends.Damaged place) timeless is = cc
+end_clock (ends.JournalFull tail need) timeless is = cc
+end_clock ends.NoMemory timeless is = cc
+
 end_answer : (end : SessionEnd) → (status_by end ≢ statuses.ReadFault) → (status_by end ≢ statuses.DiskFault) → (status_by end ≢ statuses.LineFault) → (status_by end ≢ statuses.ClockFault)
     → (status_by end ≢ statuses.NoMemory) → SessionAnswer (status_by end)
 end_answer ends.ReadFault read disk line clock memory = absurd (read refl)

@@ -8,5 +8,7 @@ pub mod Promises
 pub mod ExitCodes
 pub mod Views
 pub mod Inits
+pub mod LongTexts
 pub mod Sessions
+pub mod Accords
 pub mod Commands

@@ -1,11 +1,12 @@
--- A session of the host that a journal keeps.
+-- A session of the host or of the bank that a journal keeps.
 use Rattle.std.specs.Prelude.{◌≡◌, ℕ, List, Option, IfSome, Result, Ok, Err}
 use Rattle.site_core.specs.Log.{reads}
 use Rattle.site_core.specs.Told.{Goes}
 use Rattle.line_sessions.specs.declared.ends.SessionEnd.{SessionEnd}
 use Rattle.line_sessions.specs.declared.ends.SessionEnd.TheVariants as ends
-use Rattle.host_session.specs.Ending.{AnswersImage, EndReason, Opens}
-use Rattle.host_session.specs.Serving.{Session}
+use Rattle.node_session.specs.Ending.{AnswersImage, EndReason, Opens}
+use Rattle.node_session.specs.Kinds.{Kind}
+use Rattle.node_session.specs.Serving.{Session}
 use Rattle.faim_top.specs.declared.status.Status.{Status}
 use Rattle.faim_top.specs.declared.status.Status.TheVariants as statuses
 use Rattle.faim_top.specs.declared.status.Reason.TheVariants as reasons
@@ -30,12 +31,12 @@ status_of (Err end) = status_by end
 
 -- a session that ended so: what came, what stands at its end and at each moment of it, what the answer says of the image, and why
 -- a call failed
-pub record SessionEnded (status : Status) (v : Views) : Type 0 where
+pub record SessionEnded {O E X A K : Type 0} (kind : Kind O E X A K) (status : Status) (v : Views) : Type 0 where
   pub end : Result (Unit {0}) SessionEnd
   pub told : status ≡ status_of end
-  pub session : Session end (first_view v) (last_view v)
-  pub says : Goes v.site.before v.site.after (Opens end)
-  pub image : IfSome v.site.before (λ told. AnswersImage (reads told.log) end)
+  pub session : Session kind end (first_view v) (last_view v)
+  pub says : Goes v.site.before v.site.after (Opens kind end)
+  pub image : IfSome v.site.before (λ told. AnswersImage kind (reads told.log) end)
   pub reason : Goes v.site.before v.site.after (EndReason end)
 
 -- the statuses of a session where no call fails and memory is there

@@ -1,7 +1,7 @@
 -- What the objects of a run tell, before it and after it.
 use Rattle.std.specs.Prelude.{ℕ, List, Option}
 use Rattle.site_core.specs.Told.{Told}
-use Rattle.host_session.specs.Views.{View}
+use Rattle.node_session.specs.Views.{View}
 use Rattle.faim_top.specs.Ends.{Streams}
 use Rattle.faim_top.specs.Seen.{Seen}
 

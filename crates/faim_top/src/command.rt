@@ -1,7 +1,7 @@
 // The words of the command line.
 ghost use Rattle.std.specs.Prelude.{◌≡◌, drop};
 ghost use Rattle.std.specs.Option.{option_copied};
-ghost use Rattle.faim_top.specs.Words.{begun, named, numbered, path_after, path_of, texts};
+ghost use Rattle.faim_top.specs.Words.{begun, made_of, named, numbered, path_after, path_of, texts};
 
 use crate::Query;
 
@@ -24,6 +24,10 @@ pub enum Command {
     HostInit,
     /// A session of the host that a journal keeps.
     Host,
+    /// A journal of a bank without entries, whose text is the input.
+    BankInit,
+    /// A session of the bank that a journal keeps.
+    Bank,
 }
 
 impl Command {
@@ -61,6 +65,7 @@ fn numbered(word: &str, number: &str) -> Option<Command>
     match (word, number) {
         ("table", "1") => Some(Command::Answer(Query::Table)),
         ("host", _) => Some(Command::Host),
+        ("bank", _) => Some(Command::Bank),
         _ => None,
     }
 }
@@ -69,8 +74,19 @@ fn numbered(word: &str, number: &str) -> Option<Command>
 fn begun(word: &str, init: &str) -> Option<Command>
     ensures { result ≡ begun word.now init.now }
 {
-    match (word, init) {
-        ("host", "init") => Some(Command::HostInit),
+    match init {
+        "init" => made_of(word),
+        _ => None,
+    }
+}
+
+// The init of a host, or of a bank.
+fn made_of(word: &str) -> Option<Command>
+    ensures { result ≡ made_of word.now }
+{
+    match word {
+        "host" => Some(Command::HostInit),
+        "bank" => Some(Command::BankInit),
         _ => None,
     }
 }
@@ -90,7 +106,10 @@ fn path_after(command: Option<Command>, path: &str) -> Option<&str>
     ensures { option_copied result ≡ path_after command path.now }
 {
     match command {
-        Some(Command::HostInit) | Some(Command::Host) => Some(path),
+        Some(Command::HostInit)
+        | Some(Command::Host)
+        | Some(Command::BankInit)
+        | Some(Command::Bank) => Some(path),
         Some(Command::Answer(_)) | None => None,
     }
 }

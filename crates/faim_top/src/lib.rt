@@ -6,6 +6,7 @@ mod command;
 mod feeding;
 mod inits;
 mod laws;
+mod openings;
 mod play;
 mod query;
 mod sessions;

@@ -16,7 +16,7 @@ pub enum Reason {
     Text(Refused),
     /// The message fails this edit first, of table 1.
     Edit(EditNo),
-    /// The text isn't a script, or no configuration.
+    /// The text isn't a script, or no configuration, or no bank's.
     Script(ScriptFault),
     /// What comes next on a session's input is no frame, or the input ends within it.
     Frame(FrameFault),

@@ -1,3 +1,5 @@
+mod bank_serving;
+mod banking;
 mod checking;
 mod ends;
 mod hosting;

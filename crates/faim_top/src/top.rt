@@ -1,7 +1,8 @@
 // The top call.
 ghost use Rattle.std.specs.Prelude.{◌≡◌, ◌≢◌, ◌↔◌, Some, IsNone, IfSome, IfOk, true, false};
 ghost use Rattle.site_core.specs.Counts.{Rose};
-ghost use Rattle.faim_top.specs.Commands.{Carried, Completed, most_taken, uses_clock, uses_input, uses_output, uses_site};
+ghost use Rattle.faim_top.specs.Accords.{StaysInAccord};
+ghost use Rattle.faim_top.specs.Commands.{Carried, Completed, makes_journal, most_taken, uses_clock, uses_input, uses_output, uses_site};
 ghost use Rattle.faim_top.specs.Ends.{Ended, IsAnswered, input_of, most_read};
 ghost use Rattle.faim_top.specs.Inits.{makes_no_call};
 ghost use Rattle.faim_top.specs.Promises.{KeepsPromises};
@@ -11,10 +12,12 @@ ghost use Rattle.faim_top.specs.Words.{command_of, texts};
 ghost use Rattle.world_text.specs.Grammar.{script_of};
 
 use crate::answers::answer_to;
-use crate::inits::init_host;
-use crate::sessions::serve_host;
+use crate::inits::init;
+use crate::sessions::{serve_bank, serve_host};
 use crate::streams::{ReadEnd, write_all};
 use crate::{Command, Query, Status, promises_kept};
+use bank_books::BankOpening;
+use host_ledger::Config;
 use site_core::{Clock, Sink, Site, Source, StopSite};
 use std::alloc::Global;
 use world_text::scripts_are_sound;
@@ -49,7 +52,7 @@ pub fn run<I: Source, O: Sink, S: Site, M: StopSite, C: Clock>(
     ensures stage { stage.new ≡ stage.old }
 
     // An init that is refused makes no device call.
-    ensures quiet { command_of (texts words.now) ≡ Some Command.HostInit → makes_no_call result ≡ true → site.new ≡ site.old }
+    ensures quiet { makes_journal (command_of (texts words.now)) ≡ true → makes_no_call result ≡ true → site.new ≡ site.old }
 
     // No more is read than one byte beyond what the command takes.
     ensures few { IfSome (command_of (texts words.now)) (λ command. LosesAtMost (most_taken command) (seen I.left input.old input.new)) }
@@ -75,6 +78,9 @@ pub fn run<I: Source, O: Sink, S: Site, M: StopSite, C: Clock>(
           given = seen C.given clock.old clock.new;
         })) }
 
+    // Whatever host covers the acknowledgements and outputs that a bank reads, its verdicts and its inbox stay those of that host.
+    ensures accord { command_of (texts words.now) ≡ Some Command.Bank → IfSome (I.left input.old) (λ whole. StaysInAccord whole (S.told site.old) (S.told site.new)) }
+
     // The list of entries, after each event of the script.
     ensures promises { command_of (texts words.now) ≡ Some (Command.Answer Query.Replay) → result ≡ Status.Done → IfSome (I.left input.old) (λ text. IfOk (script_of text) KeepsPromises) }
 {
@@ -83,8 +89,10 @@ pub fn run<I: Source, O: Sink, S: Site, M: StopSite, C: Clock>(
     match Command::read(words) {
         None => Status::Usage,
         Some(Command::Answer(query)) => carry_out(alloc, query, input, out),
-        Some(Command::HostInit) => init_host(alloc, input, out, site),
+        Some(Command::HostInit) => init::<Config, I, O, S>(alloc, input, out, site),
         Some(Command::Host) => serve_host(alloc, input, site, clock),
+        Some(Command::Bank) => serve_bank(alloc, input, site),
+        Some(Command::BankInit) => init::<BankOpening, I, O, S>(alloc, input, out, site),
     }
 }
 

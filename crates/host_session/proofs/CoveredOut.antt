@@ -14,7 +14,8 @@ use Rattle.faim_model.proofs.Drawn.{from_map}
 use Rattle.faim_model.proofs.Members.{none_in}
 use Rattle.host_node.specs.HostList.{host_rules}
 use Rattle.line_sessions.specs.Plays.{IsMoment}
-use Rattle.host_session.specs.HostPart.{Kept, KeptStands, events, host_part}
+use Rattle.node_session.specs.Kinds.{KeptStands, events}
+use Rattle.host_session.specs.HostKind.{Kept, host_kind, host_part}
 use Rattle.host_session.specs.Promises.{AllCovered, IsSafe}
 use Rattle.host_session.proofs.NothingMissed.{one_kept}
 use Rattle.host_session.proofs.SafeMoments.{came_sound, safe_moment}
@@ -49,7 +50,7 @@ module _ (kept : Kept) (last : List Entry) (frames : List Frame) (before : List 
 pub covered_everywhere : ((image : List ℕ) (list : Listed Config Entry) (r : ℕ) → Stands host_rules image list r → IsLawful host_rules list)
     → ((image : List ℕ) (a b : Listed Config Entry) (r m : ℕ) → Stands host_rules image a r → Stands host_rules image b m → (a ≡ b) × (r ≡ m))
     → (kept now : Kept) (arrivals : List Arrival) (before : List (List ℕ)) (image : List ℕ) (found : List (List ℕ)) → AllByRecursion IsArrival arrivals → AllCovered kept before
-    → IsMoment host_part kept (events arrivals) before image found → KeptStands image now → AllCovered now found
+    → IsMoment host_part kept (events arrivals) before image found → KeptStands host_kind image now → AllCovered now found
 covered_everywhere lawful once kept now arrivals before image found sound covered m stands =
     let safe = safe_moment lawful kept (events arrivals) before image found (tt, came_sound arrivals sound) m in
     let same : safe.now ≡ now = one_kept lawful once image safe.now now safe.stands stands in

@@ -1,11 +1,6 @@
-mod CoveredOut
-mod FrameTaken
-mod InputEnded
-mod LaterEnds
+mod Fits
 mod ModelWords
-mod NextSessions
-mod NothingMissed
-mod OneEvent
-pub mod Opened
 mod SafeMoments
-mod WentOn
+mod NothingMissed
+mod CoveredOut
+mod TrustedOut

@@ -16,8 +16,9 @@ use Rattle.faim_model.proofs.Drawn.{into_map}
 use Rattle.faim_model.proofs.Members.{none_in}
 use Rattle.host_node.specs.HostList.{host_rules}
 use Rattle.line_sessions.specs.Plays.{IsMoment, PlaysOut, all_after, all_sent}
-use Rattle.host_session.specs.HostPart.{Event, Kept, KeptStands, events, host_part, sent_at}
-use Rattle.host_session.specs.HostPart.Event.{Resumed, Came}
+use Rattle.node_session.specs.Kinds.{Event, KeptStands, events, sent_at}
+use Rattle.host_session.specs.HostKind.{Kept, host_kind, host_part}
+use Rattle.node_session.specs.Kinds.Event.{Resumed, Came}
 use Rattle.host_session.specs.Promises.{IsGrownFrom, IsOut, IsOwed, IsSafe, NoneMissed, all_frames, first_sent}
 use Rattle.host_session.proofs.ModelWords.{bytes_of_all}
 use Rattle.host_session.proofs.SafeMoments.{all_newer, came_sound, grown_is, safe_moment, sent_all}
@@ -30,19 +31,19 @@ resent kept = resume_frames kept.config kept.entries kept.recent
 
 -- they are out, or the image still stands for what was kept
 abbrev WasResumed : Kept → List ℕ → List (List ℕ) → Type 0
-WasResumed kept image found = ((g : Frame) → Contains (resent kept) g → Contains found (frame_bytes g)) ⊎ KeptStands image kept
+WasResumed kept image found = ((g : Frame) → Contains (resent kept) g → Contains found (frame_bytes g)) ⊎ KeptStands host_kind image kept
 
 -- where the resume is all that was begun, what was kept stands
-still : (kept : Kept) (image : List ℕ) (first : Event) (stays : Bool) → Resumed ≡ first → KeptStands image (all_after host_part kept (if stays then [] ++ first ∷ [] else [])) → KeptStands image kept
-still kept image first true is stands = subst (λ (event : Event). KeptStands image (all_after host_part kept (event ∷ []))) (sym is) stands
+still : (kept : Kept) (image : List ℕ) (first : Event Arrival) (stays : Bool) → Resumed ≡ first → KeptStands host_kind image (all_after host_part kept (if stays then [] ++ first ∷ [] else [])) → KeptStands host_kind image kept
+still kept image first true is stands = subst (λ (event : Event Arrival). KeptStands host_kind image (all_after host_part kept (event ∷ []))) (sym is) stands
 still kept image first false is stands = stands
 
-unbegun : (stays : Bool) (kept : Kept) (image : List ℕ) → KeptStands image (all_after host_part kept (if stays then [] ++ [] else [])) → KeptStands image kept
+unbegun : (stays : Bool) (kept : Kept) (image : List ℕ) → KeptStands host_kind image (all_after host_part kept (if stays then [] ++ [] else [])) → KeptStands host_kind image kept
 unbegun true kept image stands = stands
 unbegun false kept image stands = stands
 
-resumed_by : (kept : Kept) (rest done begun later : List Event) (before : List (List ℕ)) (image : List ℕ) (found more : List (List ℕ)) (stays : Bool)
-    → Resumed ∷ rest ≡ done ++ (begun ++ later) → length begun ≤ 1 → KeptStands image (all_after host_part kept (if stays then done ++ begun else done))
+resumed_by : (kept : Kept) (rest done begun later : List (Event Arrival)) (before : List (List ℕ)) (image : List ℕ) (found more : List (List ℕ)) (stays : Bool)
+    → Resumed ∷ rest ≡ done ++ (begun ++ later) → length begun ≤ 1 → KeptStands host_kind image (all_after host_part kept (if stays then done ++ begun else done))
     → found ≡ before ++ (all_sent host_part kept done ++ more) → WasResumed kept image found
 resumed_by kept rest [] [] later before image found more stays are one stands is = inr (unbegun stays kept image stands)
 resumed_by kept rest [] (first ∷ []) later before image found more stays are one stands is =
@@ -53,12 +54,12 @@ resumed_by kept rest (first ∷ done) begun later before image found more stays 
     let early : List (List ℕ) = all_sent host_part (host_part.after kept first) done in
     inl (λ g there.
     subst (λ (l : List (List ℕ)). Contains l (frame_bytes g)) (sym is)
-    (Contains-append_right before ((sent_at kept first ++ early) ++ more) (frame_bytes g)
-    (Contains-append_left (sent_at kept first ++ early) more (frame_bytes g)
-    (Contains-append_left (sent_at kept first) early (frame_bytes g)
-    (subst (λ (event : Event). Contains (sent_at kept event) (frame_bytes g)) same (into_map frame_bytes (resent kept) g there))))))
+    (Contains-append_right before ((sent_at host_kind kept first ++ early) ++ more) (frame_bytes g)
+    (Contains-append_left (sent_at host_kind kept first ++ early) more (frame_bytes g)
+    (Contains-append_left (sent_at host_kind kept first) early (frame_bytes g)
+    (subst (λ (event : Event Arrival). Contains (sent_at host_kind kept event) (frame_bytes g)) same (into_map frame_bytes (resent kept) g there))))))
 
-resumed_or_same : (kept : Kept) (rest : List Event) (before : List (List ℕ)) (image : List ℕ) (found : List (List ℕ)) → IsMoment host_part kept (Resumed ∷ rest) before image found
+resumed_or_same : (kept : Kept) (rest : List (Event Arrival)) (before : List (List ℕ)) (image : List ℕ) (found : List (List ℕ)) → IsMoment host_part kept (Resumed ∷ rest) before image found
     → WasResumed kept image found
 resumed_or_same kept rest before image found m =
     resumed_by kept rest m.done m.begun m.later before image found (take m.count (all_sent host_part (all_after host_part kept m.done) m.begun)) m.stays m.are m.one m.stands m.found_are
@@ -68,13 +69,13 @@ resumed_or_same kept rest before image found m =
 module _ (lawful : (image : List ℕ) (list : Listed Config Entry) (r : ℕ) → Stands host_rules image list r → IsLawful host_rules list)
     (once : (image : List ℕ) (a b : Listed Config Entry) (r m : ℕ) → Stands host_rules image a r → Stands host_rules image b m → (a ≡ b) × (r ≡ m)) where
   -- an image stands for one thing at most that is kept
-  pub one_kept : (image : List ℕ) (a b : Kept) → KeptStands image a → KeptStands image b → a ≡ b
+  pub one_kept : (image : List ℕ) (a b : Kept) → KeptStands host_kind image a → KeptStands host_kind image b → a ≡ b
   one_kept image a b p q =
       let one = once image (record { opening = a.config; entries = a.entries }) (record { opening = b.config; entries = b.entries }) a.recent b.recent p q in
       λ k. record { config = (one.0 k).opening; entries = (one.0 k).entries; recent = one.1 k }
 
   module _ (kept now : Kept) (arrivals : List Arrival) (frames : List Frame) (before : List (List ℕ)) (image : List ℕ) (found : List (List ℕ))
-      (sound : AllByRecursion IsArrival arrivals) (none : NoneMissed frames kept before) (m : IsMoment host_part kept (events arrivals) before image found) (stands : KeptStands image now) where
+      (sound : AllByRecursion IsArrival arrivals) (none : NoneMissed frames kept before) (m : IsMoment host_part kept (events arrivals) before image found) (stands : KeptStands host_kind image now) where
     abbrev Went : Frame → Type 0
     Went f = IsOut f found ⊎ IsOwed f now
 
@@ -96,7 +97,7 @@ module _ (lawful : (image : List ℕ) (list : Listed Config Entry) (r : ℕ) →
         inl (was.0, subst (λ (l : List (List ℕ)). Contains l (frame_bytes was.0)) (sym safe.found_are) (Contains-append_left before (map frame_bytes safe.out) (frame_bytes was.0) was.1), was.2))
         (λ (was : IsOwed f kept).
         ⊎_elim (λ (sends : (g : Frame) → Contains (resent kept) g → Contains found (frame_bytes g)). inl (was.0, sends was.0 was.1, was.2))
-        (λ (stays : KeptStands image kept). inr (subst (IsOwed f) (one_kept image kept now stays stands) was))
+        (λ (stays : KeptStands host_kind image kept). inr (subst (IsOwed f) (one_kept image kept now stays stands) was))
         (resumed_or_same kept (map Came arrivals) before image found m))
         (none f there)
 

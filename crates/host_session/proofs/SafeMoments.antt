@@ -26,51 +26,52 @@ use Rattle.faim_model.proofs.Stepping.{step_covered, step_in_calendar}
 use Rattle.host_node.specs.HostList.{host_rules}
 use Rattle.line_sessions.specs.Plays.{IsMoment, all_after, all_sent}
 use Rattle.line_sessions.proofs.Joined.{after_on}
-use Rattle.host_session.specs.HostPart.{Event, Kept, KeptStands, events, host_part, kept_after, step_of}
-use Rattle.host_session.specs.HostPart.Event.{Resumed, Came}
+use Rattle.node_session.specs.Kinds.{Event, KeptStands, events, kept_after}
+use Rattle.host_session.specs.HostKind.{Kept, host_kind, host_part, step_of}
+use Rattle.node_session.specs.Kinds.Event.{Resumed, Came}
 use Rattle.host_session.specs.Promises.{IsOwed, IsSafe, IsSound, all_frames, first_sent, frames_for}
 use Rattle.host_session.proofs.ModelWords.{bytes_of_all, frames_of_session, frames_on, session_after}
 
 -- ---- what events add
 
-abbrev pub newer_at : Kept → Event → List Entry
+abbrev pub newer_at : Kept → Event Arrival → List Entry
 newer_at kept Resumed = []
 newer_at kept (Came a) = option_to_list (step_of kept a).adds
 
-abbrev pub all_newer : Kept → List Event → List Entry
+abbrev pub all_newer : Kept → List (Event Arrival) → List Entry
 all_newer kept [] = []
-all_newer kept (event ∷ later) = all_newer (kept_after kept event) later ++ newer_at kept event
+all_newer kept (event ∷ later) = all_newer (kept_after host_kind kept event) later ++ newer_at kept event
 
 added : (adds : Option Entry) (es : List Entry) → adds_to adds es ≡ option_to_list adds ++ es
 added None es = refl
 added (Some x) es = refl
 
-grown_by : (kept : Kept) (event : Event) → (kept_after kept event).entries ≡ newer_at kept event ++ kept.entries
+grown_by : (kept : Kept) (event : Event Arrival) → (kept_after host_kind kept event).entries ≡ newer_at kept event ++ kept.entries
 grown_by kept Resumed = refl
 grown_by kept (Came a) = added (step_of kept a).adds kept.entries
 
-pub grown_is : (kept : Kept) (taken : List Event) → (all_after host_part kept taken).entries ≡ all_newer kept taken ++ kept.entries
+pub grown_is : (kept : Kept) (taken : List (Event Arrival)) → (all_after host_part kept taken).entries ≡ all_newer kept taken ++ kept.entries
 grown_is kept [] = refl
 grown_is kept (event ∷ later) =
-    grown_is (kept_after kept event) later
-    ∙ ap (λ (l : List Entry). all_newer (kept_after kept event) later ++ l) (grown_by kept event)
-    ∙ sym (append_assoc (all_newer (kept_after kept event) later) (newer_at kept event) kept.entries)
+    grown_is (kept_after host_kind kept event) later
+    ∙ ap (λ (l : List Entry). all_newer (kept_after host_kind kept event) later ++ l) (grown_by kept event)
+    ∙ sym (append_assoc (all_newer (kept_after host_kind kept event) later) (newer_at kept event) kept.entries)
 
 -- the configuration stays
-config_by : (kept : Kept) (event : Event) → (kept_after kept event).config ≡ kept.config
+config_by : (kept : Kept) (event : Event Arrival) → (kept_after host_kind kept event).config ≡ kept.config
 config_by kept Resumed = refl
 config_by kept (Came a) = refl
 
-config_stays : (kept : Kept) (taken : List Event) → (all_after host_part kept taken).config ≡ kept.config
+config_stays : (kept : Kept) (taken : List (Event Arrival)) → (all_after host_part kept taken).config ≡ kept.config
 config_stays kept [] = refl
-config_stays kept (event ∷ later) = config_stays (kept_after kept event) later ∙ config_by kept event
+config_stays kept (event ∷ later) = config_stays (kept_after host_kind kept event) later ∙ config_by kept event
 
 -- the newest entry is of a moment of the calendar
-calendar_by : (kept : Kept) (event : Event) → IsSound event → InCalendar (last_moment kept.entries) → InCalendar (last_moment (kept_after kept event).entries)
+calendar_by : (kept : Kept) (event : Event Arrival) → IsSound event → InCalendar (last_moment kept.entries) → InCalendar (last_moment (kept_after host_kind kept event).entries)
 calendar_by kept Resumed sound before = before
 calendar_by kept (Came a) sound before = step_in_calendar kept.config kept.entries a.frame a.reading sound.timed before
 
-calendar_of : (c : Config) (newer es : List Entry) → AllFollowed host_rules c (newer ++ es) → InCalendar (last_moment es)
+pub calendar_of : (c : Config) (newer es : List Entry) → AllFollowed host_rules c (newer ++ es) → InCalendar (last_moment es)
 calendar_of c [] [] all = let low : 0 ≤ 4_207_593_599 = omega arith in low
 calendar_of c [] (Posted h body resent moment v ∷ older) all = all.0.0.1
 calendar_of c [] (Roll moment date ∷ older) all = all.0.0.0
@@ -89,16 +90,16 @@ sent_of_added : (c : Config) (es : List Entry) (adds : Option Entry) (sends : Li
 sent_of_added c es None sends own f there = absurd (none_in f there)
 sent_of_added c es (Some x) sends own f there = subst (λ (l : List Frame). Contains l f) (sym (own x refl)) there
 
-sent_by : (kept : Kept) (event : Event) (f : Frame) → Contains (first_sent kept.config kept.entries (newer_at kept event)) f → Contains (frames_for kept event) f
+sent_by : (kept : Kept) (event : Event Arrival) (f : Frame) → Contains (first_sent kept.config kept.entries (newer_at kept event)) f → Contains (frames_for kept event) f
 sent_by kept Resumed f there = absurd (none_in f there)
 sent_by kept (Came a) f there =
     sent_of_added kept.config kept.entries (step_of kept a).adds (step_of kept a).sends (sends_own kept.config kept.entries a.frame a.reading) f there
 
 -- where all events are done, the frames of all that they added were sent
-pub sent_all : (kept : Kept) (taken : List Event) (f : Frame) → Contains (first_sent kept.config kept.entries (all_newer kept taken)) f → Contains (all_frames kept taken) f
+pub sent_all : (kept : Kept) (taken : List (Event Arrival)) (f : Frame) → Contains (first_sent kept.config kept.entries (all_newer kept taken)) f → Contains (all_frames kept taken) f
 sent_all kept [] f there = absurd (none_in f there)
 sent_all kept (event ∷ later) f there =
-    let next : Kept = kept_after kept event in
+    let next : Kept = kept_after host_kind kept event in
     let newer : List Entry = all_newer next later in
     let first : List Entry = newer_at kept event in
     ⊎_elim (λ (own : Contains (first_sent kept.config kept.entries first) f). Contains-append_left (frames_for kept event) (all_frames next later) f (sent_by kept event f own))
@@ -117,7 +118,7 @@ again_of c es r (Some x) f there =
     from_map unmarked (frames_of c es x 80) (unmarked f)
     (subst (λ (l : List Frame). Contains l (unmarked f)) (sym (frames_alike c es x 80 32)) (into_map unmarked (frames_of c es x 32) f there))
 
-again_by : (kept : Kept) (begun : List Event) (f : Frame) → length begun ≤ 1 → Contains (first_sent kept.config kept.entries (all_newer kept begun)) f
+again_by : (kept : Kept) (begun : List (Event Arrival)) (f : Frame) → length begun ≤ 1 → Contains (first_sent kept.config kept.entries (all_newer kept begun)) f
     → IsOwed f (all_after host_part kept begun)
 again_by kept [] f one there = absurd (none_in f there)
 again_by kept (Resumed ∷ []) f one there = absurd (none_in f there)
@@ -126,20 +127,20 @@ again_by kept (first ∷ second ∷ more) f one there = absurd (omega (arith, on
 
 -- ---- what covers the frames
 
-stays_covered : (kept : Kept) (taken : List Event) (f : Frame) → Covered kept.config kept.entries f → Covered kept.config (all_after host_part kept taken).entries f
+stays_covered : (kept : Kept) (taken : List (Event Arrival)) (f : Frame) → Covered kept.config kept.entries f → Covered kept.config (all_after host_part kept taken).entries f
 stays_covered kept taken f covered =
     subst (λ (l : List Entry). Covered kept.config l f) (sym (grown_is kept taken)) (covered_by_longer kept.config kept.entries (all_newer kept taken) f covered)
 
-covered_by : (kept : Kept) (event : Event) (f : Frame) → IsSound event → InCalendar (last_moment kept.entries) → Contains (frames_for kept event) f
-    → Covered kept.config (kept_after kept event).entries f
+covered_by : (kept : Kept) (event : Event Arrival) (f : Frame) → IsSound event → InCalendar (last_moment kept.entries) → Contains (frames_for kept event) f
+    → Covered kept.config (kept_after host_kind kept event).entries f
 covered_by kept Resumed f sound before there = resume_covered kept.config kept.entries kept.recent f there
 covered_by kept (Came a) f sound before there = step_covered kept.config kept.entries a.frame a.reading f sound.sound.endpoint sound.timed before there
 
-covered_all : (kept : Kept) (taken : List Event) (f : Frame) → AllByRecursion IsSound taken → InCalendar (last_moment kept.entries) → Contains (all_frames kept taken) f
+covered_all : (kept : Kept) (taken : List (Event Arrival)) (f : Frame) → AllByRecursion IsSound taken → InCalendar (last_moment kept.entries) → Contains (all_frames kept taken) f
     → Covered kept.config (all_after host_part kept taken).entries f
 covered_all kept [] f sound before there = absurd (none_in f there)
 covered_all kept (event ∷ later) f sound before there =
-    let next : Kept = kept_after kept event in
+    let next : Kept = kept_after host_kind kept event in
     let Is : Config → Type 0 = λ c. Covered c (all_after host_part next later).entries f in
     ⊎_elim (λ (own : Contains (frames_for kept event) f).
     subst Is (config_by kept event) (stays_covered next later f
@@ -148,7 +149,7 @@ covered_all kept (event ∷ later) f sound before there =
     subst Is (config_by kept event) (covered_all next later f sound.1 (calendar_by kept event sound.0 before) more))
     (Contains-append_cases (frames_for kept event) (all_frames next later) f there)
 
-front_sound : (first more : List Event) → AllByRecursion IsSound (first ++ more) → AllByRecursion IsSound first
+front_sound : (first more : List (Event Arrival)) → AllByRecursion IsSound (first ++ more) → AllByRecursion IsSound first
 front_sound [] more all = tt
 front_sound (event ∷ first) more all = (all.0, front_sound first more all.1)
 
@@ -161,12 +162,12 @@ came_sound (a ∷ arrivals) all = (all.0, came_sound arrivals all.1)
 
 module _ (lawful : (image : List ℕ) (list : Listed Config Entry) (r : ℕ) → Stands host_rules image list r → IsLawful host_rules list) where
   -- the newest entry of what was kept is of a moment of the calendar, where the image stands for a list that has grown from it
-  calendar_from : (image : List ℕ) (now : Kept) (newer es : List Entry) → now.entries ≡ newer ++ es → KeptStands image now → InCalendar (last_moment es)
+  calendar_from : (image : List ℕ) (now : Kept) (newer es : List Entry) → now.entries ≡ newer ++ es → KeptStands host_kind image now → InCalendar (last_moment es)
   calendar_from image now newer es are stands =
       calendar_of now.config newer es
       (subst (AllFollowed host_rules now.config) are (lawful image (record { opening = now.config; entries = now.entries }) now.recent stands).entries)
 
-  module _ (kept : Kept) (done begun later : List Event) (before : List (List ℕ)) (image : List ℕ) (found : List (List ℕ)) (count : ℕ)
+  module _ (kept : Kept) (done begun later : List (Event Arrival)) (before : List (List ℕ)) (image : List ℕ) (found : List (List ℕ)) (count : ℕ)
       (one : length begun ≤ 1) (sound : AllByRecursion IsSound (done ++ (begun ++ later)))
       (is : found ≡ before ++ (all_sent host_part kept done ++ take count (all_sent host_part (all_after host_part kept done) begun))) where
     abbrev mid : Kept
@@ -184,7 +185,7 @@ module _ (lawful : (image : List ℕ) (list : Listed Config Entry) (r : ℕ) →
     abbrev rest : List Frame
     rest = all_frames now later
 
-    abbrev whole : List Event
+    abbrev whole : List (Event Arrival)
     whole = done ++ (begun ++ later)
 
     frames_are : all_frames kept whole ≡ (early ++ take count going) ++ (drop count going ++ rest)
@@ -205,7 +206,7 @@ module _ (lawful : (image : List ℕ) (list : Listed Config Entry) (r : ℕ) →
         ∙ sym (map-append frame_bytes early (take count going)))
 
     -- nothing of what was begun stands
-    unbegun : count ≡ 0 → KeptStands image mid → IsSafe kept (all_after host_part kept whole).entries (all_frames kept whole) before image found
+    unbegun : count ≡ 0 → KeptStands host_kind image mid → IsSafe kept (all_after host_part kept whole).entries (all_frames kept whole) before image found
     unbegun none stands = record {
       now = mid;
       stands = stands;
@@ -238,7 +239,7 @@ module _ (lawful : (image : List ℕ) (list : Listed Config Entry) (r : ℕ) →
     config_now : now.config ≡ kept.config
     config_now = config_stays mid begun ∙ config_stays kept done
 
-    covered_now : KeptStands image now → (f : Frame) → Contains (early ++ take count going) f → Covered now.config now.entries f
+    covered_now : KeptStands host_kind image now → (f : Frame) → Contains (early ++ take count going) f → Covered now.config now.entries f
     covered_now stands f there =
         let among : Contains (early ++ going) f = ⊎_elim
         (λ (own : Contains early f). Contains-append_left early going f own)
@@ -260,7 +261,7 @@ module _ (lawful : (image : List ℕ) (list : Listed Config Entry) (r : ℕ) →
         (Contains-append_cases (first_sent kept.config kept.entries (all_newer kept done)) (first_sent kept.config (all_newer kept done ++ kept.entries) (all_newer mid begun)) f
         (subst (λ (l : List Frame). Contains l f) (first_sent_on kept.config kept.entries (all_newer mid begun) (all_newer kept done)) there))
 
-    begun_stands : KeptStands image now → IsSafe kept (all_after host_part kept whole).entries (all_frames kept whole) before image found
+    begun_stands : KeptStands host_kind image now → IsSafe kept (all_after host_part kept whole).entries (all_frames kept whole) before image found
     begun_stands stands = record {
       now = now;
       stands = stands;
@@ -278,15 +279,15 @@ module _ (lawful : (image : List ℕ) (list : Listed Config Entry) (r : ℕ) →
       owed = owed_now;
     }
 
-    by_stays : (stays : Bool) → (stays ≡ false → count ≡ 0) → KeptStands image (all_after host_part kept (if stays then done ++ begun else done))
+    by_stays : (stays : Bool) → (stays ≡ false → count ≡ 0) → KeptStands host_kind image (all_after host_part kept (if stays then done ++ begun else done))
         → IsSafe kept (all_after host_part kept whole).entries (all_frames kept whole) before image found
-    by_stays true unsent stands = begun_stands (subst (KeptStands image) (after_on host_part kept done begun) stands)
+    by_stays true unsent stands = begun_stands (subst (KeptStands host_kind image) (after_on host_part kept done begun) stands)
     by_stays false unsent stands = unbegun (unsent refl) stands
 
-  pub safe_moment : (kept : Kept) (taken : List Event) (before : List (List ℕ)) (image : List ℕ) (found : List (List ℕ)) → AllByRecursion IsSound taken
+  pub safe_moment : (kept : Kept) (taken : List (Event Arrival)) (before : List (List ℕ)) (image : List ℕ) (found : List (List ℕ)) → AllByRecursion IsSound taken
       → IsMoment host_part kept taken before image found → IsSafe kept (all_after host_part kept taken).entries (all_frames kept taken) before image found
   safe_moment kept taken before image found sound m =
-      subst (λ (l : List Event). IsSafe kept (all_after host_part kept l).entries (all_frames kept l) before image found) (sym m.are)
+      subst (λ (l : List (Event Arrival)). IsSafe kept (all_after host_part kept l).entries (all_frames kept l) before image found) (sym m.are)
       (by_stays kept m.done m.begun m.later before image found m.count m.one (subst (AllByRecursion IsSound) m.are sound) m.found_are m.stays m.unsent m.stands)
 
   pub safe_session : (kept : Kept) (arrivals : List Arrival) (before : List (List ℕ)) (image : List ℕ) (found : List (List ℕ)) → AllByRecursion IsArrival arrivals

@@ -6,23 +6,24 @@ use Rattle.host_ledger.specs.declared.config.Config.{Config}
 use Rattle.host_ledger.specs.declared.entries.Entry.{Entry}
 use Rattle.faim_model.specs.Frames.{Covered}
 use Rattle.faim_model.specs.Sending.{frames_of, resume_frames, unmarked}
-use Rattle.faim_model.specs.Sessions.{IsArrival}
-use Rattle.host_session.specs.HostPart.{Event, Kept, KeptStands, kept_after, step_of}
-use Rattle.host_session.specs.HostPart.Event.{Resumed, Came}
+use Rattle.faim_model.specs.Sessions.{Arrival, IsArrival}
+use Rattle.node_session.specs.Kinds.{Event, KeptStands, kept_after}
+use Rattle.node_session.specs.Kinds.Event.{Resumed, Came}
+use Rattle.host_session.specs.HostKind.{Kept, host_kind, step_of}
 
 -- what comes is a frame, at a moment of the calendar
-abbrev pub IsSound : Event → Type 0
+abbrev pub IsSound : Event Arrival → Type 0
 IsSound Resumed = Unit {0}
 IsSound (Came a) = IsArrival a
 
 -- the frames that a host sends at an event, and at several in their order
-abbrev pub frames_for : Kept → Event → List Frame
+abbrev pub frames_for : Kept → Event Arrival → List Frame
 frames_for kept Resumed = resume_frames kept.config kept.entries kept.recent
 frames_for kept (Came a) = (step_of kept a).sends
 
-abbrev pub all_frames : Kept → List Event → List Frame
+abbrev pub all_frames : Kept → List (Event Arrival) → List Frame
 all_frames kept [] = []
-all_frames kept (event ∷ later) = frames_for kept event ++ all_frames (kept_after kept event) later
+all_frames kept (event ∷ later) = frames_for kept event ++ all_frames (kept_after host_kind kept event) later
 
 -- a list is another one with newer entries in front of it: none of that was lost or changed
 pub record IsGrownFrom (es grown : List Entry) : Type 0 where
@@ -54,7 +55,7 @@ AllCovered kept out = (bytes : List ℕ) → Contains out bytes → (f : Frame) 
 -- are the first of all, and each of them is covered by that list; and each frame of its newer entries is out, or it is owed
 pub record IsSafe (kept : Kept) (last : List Entry) (frames : List Frame) (before : List (List ℕ)) (image : List ℕ) (found : List (List ℕ)) : Type 0 where
   pub now : Kept
-  pub stands : KeptStands image now
+  pub stands : KeptStands host_kind image now
   pub config : now.config ≡ kept.config
   pub opening : IsGrownFrom kept.entries now.entries
   pub closing : IsGrownFrom now.entries last

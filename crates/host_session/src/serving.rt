@@ -4,15 +4,16 @@ ghost use Rattle.site_core.specs.Log.{reads};
 ghost use Rattle.site_core.specs.Told.{Counted, Goes};
 ghost use Rattle.framed_input.specs.Counting.{CountsFault};
 ghost use Rattle.link_frames.specs.Splits.{is_whole};
-ghost use Rattle.host_session.specs.Ending.{AnswersImage, EndReason, Opens};
-ghost use Rattle.host_session.specs.Going.{Going, HandlesNext, IsHostEnd, IsLaterEnd, TakesNext, end_of, still_to_come};
-ghost use Rattle.host_session.specs.Serving.{Session};
-ghost use Rattle.host_session.specs.Views.{View};
+ghost use Rattle.node_session.specs.Ending.{AnswersImage, EndReason, Opens};
+ghost use Rattle.node_session.specs.Going.{Going, HandlesNext, IsLaterEnd, IsStepEnd, TakesNext, end_of, still_to_come};
+ghost use Rattle.node_session.specs.Serving.{Session};
+ghost use Rattle.node_session.specs.Views.{View};
+ghost use Rattle.host_session.specs.HostKind.{host_kind};
 
-use crate::ends::{host_end, input_end, open_end};
 use framed_input::FrameReader;
 use host_node::HostNode;
 use line_sessions::SessionEnd;
+use node_session::{input_end, open_end, step_end};
 use site_core::{Clock, Site, Source};
 use std::alloc::Global;
 
@@ -25,13 +26,13 @@ pub fn serve<I: Source, S: Site, C: Clock>(
     clock: &mut C,
 ) -> Result<(), SessionEnd>
     // What came, how it ends, and each moment of the journal and of what was sent.
-    ensures session { Session result
+    ensures session { Session host_kind result
         (record { left = I.left input.old; given = C.given clock.old; site = S.told site.old })
         (record { left = I.left input.new; given = C.given clock.new; site = S.told site.new }) }
 
     // What the answer says of the image, and what is answered to an image.
-    ensures says { Goes (S.told site.old) (S.told site.new) (Opens result) }
-    ensures image { IfSome (S.told site.old) (λ told. AnswersImage (reads told.log) result) }
+    ensures says { Goes (S.told site.old) (S.told site.new) (Opens host_kind result) }
+    ensures image { IfSome (S.told site.old) (λ told. AnswersImage host_kind (reads told.log) result) }
 
     // Each object's fault comes exactly where it counted one in this call.
     ensures read_faults { CountsFault (result ≡ Err SessionEnd.ReadFault) (I.read_faults input.old) (I.read_faults input.new) }
@@ -68,8 +69,8 @@ fn take_next<I: Source, S: Site, C: Clock>(
     requires { node.old.live ≡ true }
     ensures live { result ≡ Ok true → node.new.live ≡ true }
     ensures fewer { result ≡ Ok true → still_to_come reader.new < still_to_come reader.old }
-    ensures told { (start : View) → Going start reader.old node.old (record { left = I.left input.old; given = C.given clock.old; site = S.told site.old })
-        → TakesNext result start reader.new node.new (record { left = I.left input.new; given = C.given clock.new; site = S.told site.new }) }
+    ensures told { (start : View) → Going host_kind start reader.old node.old (record { left = I.left input.old; given = C.given clock.old; site = S.told site.old })
+        → TakesNext host_kind result start reader.new node.new (record { left = I.left input.new; given = C.given clock.new; site = S.told site.new }) }
     ensures never { IfErr result IsLaterEnd }
     ensures read_faults { CountsFault (result ≡ Err SessionEnd.ReadFault) (I.read_faults input.old) (I.read_faults input.new) }
     ensures clock_faults { CountsFault (result ≡ Err SessionEnd.ClockFault) (C.clock_faults clock.old) (C.clock_faults clock.new) }
@@ -99,9 +100,9 @@ fn handle_front<S: Site, C: Clock>(
     requires live { node.old.live ≡ true }
     ensures live { OnOk result (node.new.live ≡ true) }
     ensures fewer { OnOk result (still_to_come reader.new < still_to_come reader.old) }
-    ensures told { (start : View) (left : Option (List ℕ)) → Going start reader.old node.old (record { left = left; given = C.given clock.old; site = S.told site.old })
-        → HandlesNext result start reader.new node.new (record { left = left; given = C.given clock.new; site = S.told site.new }) }
-    ensures never { IfErr result IsHostEnd }
+    ensures told { (start : View) (left : Option (List ℕ)) → Going host_kind start reader.old node.old (record { left = left; given = C.given clock.old; site = S.told site.old })
+        → HandlesNext host_kind result start reader.new node.new (record { left = left; given = C.given clock.new; site = S.told site.new }) }
+    ensures never { IfErr result IsStepEnd }
     ensures clock_faults { CountsFault (result ≡ Err SessionEnd.ClockFault) (C.clock_faults clock.old) (C.clock_faults clock.new) }
     ensures disk_faults { CountsFault (result ≡ Err SessionEnd.DiskFault) (S.disk_faults site.old) (S.disk_faults site.new) }
     ensures line_faults { CountsFault (result ≡ Err SessionEnd.LineFault) (S.line_faults site.old) (S.line_faults site.new) }
@@ -118,7 +119,7 @@ fn handle_front<S: Site, C: Clock>(
             let _minutes = reading.get();
             match node.handle(site, &frame, reading) {
                 Ok(_) => {}
-                Err(fault) => return Err(host_end(fault)),
+                Err(fault) => return Err(step_end(fault)),
             }
         }
         None => unreachable!(),

@@ -1,6 +1,9 @@
 pub mod LineCuts
 pub mod WordCuts
 pub mod Magnitudes
+pub mod SoundWords
 pub mod SoundTexts
+pub mod SoundBankTexts
+pub mod SoundReads
 pub mod SizeLimits
 pub mod LinesLeft

@@ -2,6 +2,7 @@
 use Rattle.std.proofs.Common.{◌≡◌, ◌⊎◌, ⊎_elim, ℕ, zero, suc, ◌-◌, ◌<◌, ◌≤◌, List, [], ◌∷◌, length, get_or, map, Bor, Option, Some, None, refl, sym, ◌∙◌, ap, arith}
 use Rattle.std.specs.Prelude.{Err}
 use Rattle.world_text.specs.declared.script.Why.TheVariants.{Shape}
+use Rattle.world_text.specs.BankText.{bank_words}
 use Rattle.world_text.specs.Grammar.{host_words, account_words, submit_words, retrieve_words, clock_words, clock_values}
 use Rattle.world_text.specs.Lines.{is_blank, first_word, after, words_after, words_of}
 
@@ -33,6 +34,14 @@ host_count (a ∷ b ∷ c ∷ []) other = refl
 host_count (a ∷ b ∷ c ∷ d ∷ []) other = refl
 host_count (a ∷ b ∷ c ∷ d ∷ e ∷ []) other = ⊎_elim (λ less. absurd (omega (arith, less))) (λ more. absurd (omega (arith, more))) other
 host_count (a ∷ b ∷ c ∷ d ∷ e ∷ f ∷ ws) other = refl
+
+pub bank_count : (ws : List (List ℕ)) → (length ws < 4) ⊎ (5 ≤ length ws) → bank_words ws ≡ Err Shape
+bank_count [] other = refl
+bank_count (a ∷ []) other = refl
+bank_count (a ∷ b ∷ []) other = refl
+bank_count (a ∷ b ∷ c ∷ []) other = refl
+bank_count (a ∷ b ∷ c ∷ d ∷ []) other = ⊎_elim (λ less. absurd (omega (arith, less))) (λ more. absurd (omega (arith, more))) other
+bank_count (a ∷ b ∷ c ∷ d ∷ e ∷ ws) other = refl
 
 pub submit_count : (ws : List (List ℕ)) → (length ws < 3) ⊎ (4 ≤ length ws) → submit_words ws ≡ Err Shape
 submit_count [] other = refl

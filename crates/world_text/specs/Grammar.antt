@@ -145,16 +145,26 @@ accounts_from c before n (line ∷ lines) =
       a ← at_line n (account_line before line)
       accounts_from c (before ++ a ∷ []) (n + 1) lines
 
--- one `host` line, and accounts
-abbrev pub first_lines_in : List (List ℕ) → Result FirstLines ScriptFault
-first_lines_in [] = Err (record { line = 1; why = Ended })
-first_lines_in (line ∷ lines) = do
-  c ← at_line 1 (host_line line)
-  accounts_from c [] 2 lines
+-- the first line of a text, and the lines after it
+pub record TextLines : Type 0 where
+  pub first : List ℕ
+  pub others : List (List ℕ)
 
--- the first lines of a text that has no more bytes than it may
+-- every text has at least one line
+abbrev pub some_lines : List (List ℕ) → Result TextLines ScriptFault
+some_lines [] = Err (record { line = 1; why = Ended })
+some_lines (line ∷ lines) = Ok (record { first = line; others = lines })
+
+-- the lines of a text that has no more bytes than it may
+abbrev pub text_lines : List ℕ → Result TextLines ScriptFault
+text_lines text = if nat_le (length text) size_limit then some_lines (lines_of text) else Err (record { line = 0; why = Size })
+
+-- one `host` line, and accounts
 abbrev pub first_lines : List ℕ → Result FirstLines ScriptFault
-first_lines text = if nat_le (length text) size_limit then first_lines_in (lines_of text) else Err (record { line = 0; why = Size })
+first_lines text = do
+  lines ← text_lines text
+  c ← at_line 1 (host_line lines.first)
+  accounts_from c [] 2 lines.others
 
 -- a script goes on with `begin` and its events
 abbrev pub script_after : Config → ℕ → List (List ℕ) → Result Script ScriptFault

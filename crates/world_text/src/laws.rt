@@ -1,8 +1,11 @@
 // What every text has that is read. Each call does nothing: its contract is the law.
 ghost use Rattle.std.specs.Prelude.{◌≡◌, ℕ, List, Ok};
+ghost use Rattle.bank_books.specs.Openings.{IsBankOpening};
+ghost use Rattle.bank_books.specs.declared.entries.BankOpening.{BankOpening};
 ghost use Rattle.host_ledger.specs.Soundness.{IsConfig};
 ghost use Rattle.host_ledger.specs.declared.config.Config.{Config};
 ghost use Rattle.world_text.specs.declared.script.Script.{Script};
+ghost use Rattle.world_text.specs.BankText.{bank_of};
 ghost use Rattle.world_text.specs.Grammar.{config_of, script_of};
 
 use host_ledger::one_account_more;
@@ -21,3 +24,8 @@ pub fn configurations_are_sound()
 {
     one_account_more();
 }
+
+/// The opening that a bank's text is, is sound: its endpoint, its `env` and its date are values of their kinds.
+pub fn bank_texts_are_sound()
+    ensures { (text : List ℕ) (o : BankOpening) → bank_of text ≡ Ok o → IsBankOpening o }
+{}

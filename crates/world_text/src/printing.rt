@@ -38,8 +38,8 @@ pub fn print_closing(alloc: Global, closing: &Closing, out: &mut Vec<u8>) -> Res
     Ok(())
 }
 
-/// Appends the line of a text that is no script or no configuration (docs/FORMATS.md, "Scripts"). At `NoMemory` nothing
-/// was appended.
+/// Appends the line of a text that is no script, no configuration or no bank's text (docs/FORMATS.md, "Scripts"). At
+/// `NoMemory` nothing was appended.
 pub fn print_fault(alloc: Global, fault: &ScriptFault, out: &mut Vec<u8>) -> Result<(), NoMemory>
     ensures ok { OnOk result (out.new.items ≡ out.old.items ++ fault_line fault.now) }
     ensures err { OnErr result (out.new.items ≡ out.old.items) }

@@ -1,10 +1,10 @@
 // Reads scripts and configurations, line by line (docs/FORMATS.md, "Scripts").
-ghost use Rattle.std.specs.Prelude.{◌≡◌, ◌+◌, ◌*◌, [], ◌<◌, ◌≤◌, length, map, bytes_eq, Ok, Err, IfOk, if◌then◌else◌};
+ghost use Rattle.std.specs.Prelude.{◌≡◌, ◌+◌, ◌*◌, [], ◌<◌, ◌≤◌, length, map, bytes_eq, Ok, Err, IfOk, MatchResult, if◌then◌else◌};
 ghost use Rattle.host_ledger.specs.Soundness.{IsConfig};
 ghost use Rattle.world_text.specs.declared.script.Why.TheVariants.{Shape};
 ghost use Rattle.world_text.specs.Lines.{lines_of, words_of};
-ghost use Rattle.world_text.specs.Grammar.{host_values, host_line, account_values, account_words, account_line, submit_values, retrieve_values, clock_values, submit_words, retrieve_words, clock_words, event_named, event_line, script_from, accounts_from, first_lines, script_after, script_of, config_after, config_of, size_limit, is_begin};
-ghost use Rattle.world_text.specs.Reading.{Opens, ReadsLine, ReadsText};
+ghost use Rattle.world_text.specs.Grammar.{host_values, host_line, account_values, account_words, account_line, submit_values, retrieve_values, clock_values, submit_words, retrieve_words, clock_words, event_named, event_line, script_from, accounts_from, first_lines, script_after, script_of, config_after, config_of, size_limit, text_lines, is_begin};
+ghost use Rattle.world_text.specs.Reading.{Opens, ReadsLine, ReadsText, TextFails};
 ghost use Rattle.host_ledger.specs.Accounts.{endpoints_of};
 
 use crate::accounts::stands_beside;
@@ -109,17 +109,25 @@ fn read_first_lines(alloc: Global, text: &[u8]) -> Result<Opened<'_>, ScriptRefu
     ensures read { Opens result (first_lines text.now) }
     ensures room { IfOk result (λ o. o.next + length o.rest.now ≤ size_limit + 2) }
 {
+    let (line, rest) = first_line(text)?;
+    match host_line(alloc, line) {
+        Ok(config) => read_accounts(alloc, config, rest),
+        Err(refused) => Err(refused.at(1)),
+    }
+}
+
+// The first line of a text that has one and no more bytes than it may, and what stands after its end.
+pub(crate) fn first_line(text: &[u8]) -> Result<(&[u8], &[u8]), ScriptRefused>
+    ensures read { MatchResult result (λ p. text_lines text.now ≡ Ok (record { first = p.0.now; others = lines_of p.1.now })) (λ refused. TextFails refused (text_lines text.now)) }
+    ensures room { IfOk result (λ p. length p.1.now ≤ size_limit) }
+{
     if text.len() > SIZE_LIMIT {
         return Err(LineRefused::Fault(Why::Size).at(0));
     }
     if text.is_empty() {
         return Err(LineRefused::Fault(Why::Ended).at(1));
     }
-    let (line, rest) = split_line(text);
-    match host_line(alloc, line) {
-        Ok(config) => read_accounts(alloc, config, rest),
-        Err(refused) => Err(refused.at(1)),
-    }
+    Ok(split_line(text))
 }
 
 // The accounts up to `begin` or to the end.
@@ -265,7 +273,7 @@ fn account_values(aba: &[u8], endpoint: &[u8], opening: &[u8], floor: &[u8]) -> 
 }
 
 // The first word of a line that must be this one.
-fn named(name: &[u8], wanted: &[u8]) -> Result<(), Why>
+pub(crate) fn named(name: &[u8], wanted: &[u8]) -> Result<(), Why>
     ensures { result ≡ (if bytes_eq name.now wanted.now then Ok tt else Err Shape) }
 {
     if name == wanted {

@@ -29,7 +29,8 @@ pub struct Script {
     pub events: Events,
 }
 
-/// Why a line isn't one of a script, or of a configuration's text. The reasons are tried in this order; `Size` comes before all of them.
+/// Why a line isn't one of a script, or of a configuration's or a bank's text. The reasons are tried in this order; `Size` comes before all of
+/// them.
 #[derive(Clone, Copy, Debug, PartialEq, Eq)]
 pub enum Why {
     /// The first word isn't one that may stand at this place, or the count of words is wrong.
@@ -48,14 +49,14 @@ pub enum Why {
     Size,
 }
 
-/// The first line, counted from 1, that isn't one of a script, or of a configuration's text, and why.
+/// The first line, counted from 1, that isn't one of a script, or of a configuration's or a bank's text, and why.
 #[derive(Clone, Copy, Debug, PartialEq, Eq)]
 pub struct ScriptFault {
     pub line: u64,
     pub why: Why,
 }
 
-/// Why a text was not read: where it is no script or no configuration, or for want of memory.
+/// Why a text was not read: where it is no script, no configuration or no bank's text, or for want of memory.
 #[derive(Clone, Copy, Debug, PartialEq, Eq)]
 pub enum ScriptRefused {
     Fault(ScriptFault),

@@ -2,7 +2,7 @@ mod printing;
 mod reading;
 mod refusing;
 
-use crate::{ScriptRefused, print_fault, read_config_text, read_script};
+use crate::{ScriptRefused, print_fault, read_bank_text, read_config_text, read_script};
 use faim_base::{Bytes, NoMemory};
 use std::alloc::Global;
 
@@ -12,13 +12,17 @@ const ALPHA: &str = "account 021000021 BANKA001 1000000 0";
 
 const BETA: &str = "account 121042882 BANKB001 0 0";
 
+const BANK: &str = "bank BANKA001 T 20240102";
+
 // What a text is read as.
 #[derive(Clone, Copy)]
 enum Kind {
     Script,
     Config,
+    Bank,
 }
 
+// The kinds that begin with a `host` line.
 const BOTH: [Kind; 2] = [Kind::Script, Kind::Config];
 
 // Why a text isn't one of its kind, if it isn't.
@@ -26,6 +30,7 @@ fn refusal_of(alloc: Global, kind: Kind, text: &[u8]) -> Option<ScriptRefused> {
     match kind {
         Kind::Script => read_script(alloc, text).err(),
         Kind::Config => read_config_text(alloc, text).err(),
+        Kind::Bank => read_bank_text(alloc, text).err(),
     }
 }
 

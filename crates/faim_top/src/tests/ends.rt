@@ -12,8 +12,14 @@ fn other_words_are_no_command(rt: HostRuntime) -> Result<(), Fail> {
         read_fails: &[1],
         write_fails: &[1],
     };
-    let cases: [&[&str]; 15] = [
+    let cases: [&[&str]; 21] = [
         &["host", "init", "journal", "x"],
+        &["bank", "init", "journal", "x"],
+        &["bank", "begin", "journal"],
+        &["bank"],
+        &["Bank", "journal"],
+        &["Bank", "init", "journal"],
+        &["check", "init", "journal"],
         &["host", "begin", "journal"],
         &["Host", "journal"],
         &[],

@@ -1,5 +1,6 @@
 use super::{ALPHA, HOST, text_of};
-use crate::{Act, Script, read_config_text, read_script};
+use crate::{Act, Script, read_bank_text, read_config_text, read_script};
+use bank_books::BankOpening;
 use faim_base::{Aba, CycleDate, Endpoint};
 use host_ledger::{Account, Config};
 use std::test::Fail;
@@ -55,6 +56,27 @@ fn a_script_has_its_configuration_and_events(rt: HostRuntime) -> Result<(), Fail
             _ => assert!(rt; false),
         },
         _ => assert!(rt; false),
+    }
+    Ok(())
+}
+
+// The operator may have a bank's text too.
+#[test]
+fn a_text_is_the_opening_that_it_says(rt: HostRuntime) -> Result<(), Fail> {
+    let cases: [(&[u8], &[u8; 8], u8, u32); 4] = [
+        (b"bank BANKA001 T 20240102\n", b"BANKA001", b'T', 8_767),
+        (b"bank BANKA001 T 20240102", b"BANKA001", b'T', 8_767),
+        (b"bank OPERATOR P 20000101\n", b"OPERATOR", b'P', 0),
+        (b"bank ~!,;.:-_ P 99991231", b"~!,;.:-_", b'P', 2_921_939),
+    ];
+    for (text, endpoint, env, date) in cases {
+        let want = BankOpening {
+            endpoint: Endpoint::read(endpoint).ok_or("an endpoint")?,
+            env,
+            date: CycleDate::new(date).ok_or("a date")?,
+        };
+        let opening = read_bank_text(rt.alloc(), text)?;
+        assert_eq!(rt; opening, want);
     }
     Ok(())
 }

@@ -1,5 +1,5 @@
-use super::{ALPHA, BETA, BOTH, HOST, Kind, add_lines, line_told};
-use crate::{ScriptFault, ScriptRefused, Why, read_config_text, read_script};
+use super::{ALPHA, BANK, BETA, BOTH, HOST, Kind, add_lines, line_told};
+use crate::{ScriptFault, ScriptRefused, Why, read_bank_text, read_config_text, read_script};
 use faim_base::{Bytes, NoMemory};
 use std::alloc::Global;
 use std::process::Abort;
@@ -97,6 +97,31 @@ const EVENT_LINES: [(&str, &str); 28] = [
     ("retrieve BANKA001 20240102 000001\r", "value"),
 ];
 
+// The first line of a bank's text.
+const BANK_LINES: [(&str, &str); 21] = [
+    ("", "shape"),
+    (" bank BANKA001 T 20240102", "shape"),
+    ("banks BANKA01 X 20240230", "shape"),
+    ("BANK BANKA001 T 20240102", "shape"),
+    ("bank", "shape"),
+    ("bank BANKA001", "shape"),
+    ("bank BANKA01 X", "shape"),
+    ("bank BANKA001 T 20240102 ", "shape"),
+    ("bank BANKA001  T 20240102", "shape"),
+    ("bank\tBANKA001 T 20240102", "shape"),
+    ("host T 20240102 2400 2400", "shape"),
+    ("bank BANKA01 T 20240102", "value"),
+    ("bank BANKA0012 T 20240102", "value"),
+    ("bank BANKA0*1 T 20240102", "value"),
+    ("bank  T 20240102", "value"),
+    ("bank BANKA001 t 20240102", "value"),
+    ("bank BANKA001 TT 20240102", "value"),
+    ("bank BANKA001  20240102", "value"),
+    ("bank BANKA001 T 20240230", "value"),
+    ("bank BANKA001 P 2024010", "value"),
+    ("bank BANKA001 T 20240102\r", "value"),
+];
+
 fn check_lines(
     rt: &impl Abort,
     alloc: Global,
@@ -134,6 +159,31 @@ fn lines_are_refused_for_their_first_reason(rt: HostRuntime) -> Result<(), Fail>
         &accounts,
         &[("begin", "shape"), ("", "shape"), ("account", "shape")],
     )
+}
+
+#[test]
+fn a_line_of_a_bank_stands_alone(rt: HostRuntime) -> Result<(), Fail> {
+    check_lines(&rt, rt.alloc(), Kind::Bank, &[], &BANK_LINES)?;
+    check_lines(
+        &rt,
+        rt.alloc(),
+        Kind::Bank,
+        &[BANK],
+        &[("", "shape"), (BANK, "shape"), ("begin", "shape")],
+    )?;
+    let cases: [(&[u8], &[u8]); 6] = [
+        (b"", b"line 1 ended\n"),
+        (b"\n", b"line 1 shape\n"),
+        (b"bank BANKA001 T 20240102", b""),
+        (b"bank BANKA001 T 20240102\n", b""),
+        (b"bank BANKA001 T 20240102\nx", b"line 2 shape\n"),
+        (b"bank BANKA001 T 20240230\n\n", b"line 1 value\n"),
+    ];
+    for (text, want) in cases {
+        let told = line_told(rt.alloc(), Kind::Bank, text)?;
+        assert_eq!(rt; told.as_slice(), want);
+    }
+    Ok(())
 }
 
 // What is told of a text as a script, and what of it as a configuration; nothing where it is one.
@@ -307,6 +357,8 @@ fn texts_have_a_size_limit(rt: HostRuntime) -> Result<(), Fail> {
         let text = repeated(rt.alloc(), b'x', count)?;
         let want = ScriptRefused::Fault(ScriptFault { line, why });
         let refused = read_config_text(rt.alloc(), text.as_slice()).err();
+        assert_eq!(rt; refused, Some(want), "{count} bytes");
+        let refused = read_bank_text(rt.alloc(), text.as_slice()).err();
         assert_eq!(rt; refused, Some(want), "{count} bytes");
         if line == 0 {
             let refused = read_script(rt.alloc(), text.as_slice()).err();

@@ -1,0 +1,4 @@
+pub mod BankKind
+pub mod BankSessions
+pub mod Promises
+pub mod Trust

@@ -1,0 +1,9 @@
+pub mod OneEvent
+pub mod WentOn
+pub mod FrameTaken
+pub mod InputEnded
+pub mod LaterEnds
+pub mod Images
+pub mod Opened
+pub mod NextSessions
+pub mod InFrames
